@@ -1,0 +1,8 @@
+-- Laws for a free n, cited by the operations and by whatever rounds later.
+pub mod Tests
+pub mod Powers
+pub mod Signs
+pub mod Exponent
+pub mod Whole
+pub mod Cell
+pub mod Value

@@ -1,0 +1,40 @@
+-- Powers of two in products.
+use mathlib.Core.Path.{_≡_, sym, ap, _∙_}
+use Prim.Native.Nat.{ℕ, zero, suc, _+_, _-_, _*_, _^_, _≤_, _<_}
+use native.Mathlib.Decide.{decLe}
+use native.Mathlib.Nat.{lt-of-le-of-lt, lt-of-not-le, not-le-of-lt, pow-succ'}
+use native.Mathlib.Omega.{arith}
+use lib.Dec.{lit<}
+use lib.Ieee.{size}
+use lib.Ieee.Digits.{size-lt, size-reaches}
+use lib.Pow.{pow-add, pow-mono}
+
+-- 2^(n - 1) × 2 × 2^(t - n) is 2^t
+pub power-parts : (n t : ℕ) → 1 ≤ n → n ≤ t → 2 ^ (n - 1) * (2 * 2 ^ (t - n)) ≡ 2 ^ t
+power-parts n t n0 h =
+    ap (λ (m : ℕ). 2 ^ (n - 1) * m) (sym (pow-succ' 2 (t - n)))
+    ∙ sym (pow-add 2 (n - 1) (suc (t - n)))
+    ∙ ap (λ (m : ℕ). 2 ^ m) (let e : n - 1 + suc (t - n) ≡ t = omega arith in e)
+
+-- a number is below its own power
+pub below-power : (n : ℕ) → n < 2 ^ n
+below-power zero = lit< tt
+below-power (suc n) = omega (arith, below-power n, pow-succ' 2 n)
+
+-- the top bit of a number
+pub top-bit : (F : ℕ) → 0 < F → (t : ℕ) × (2 ^ t ≤ F) × (F < 2 ^ suc t)
+top-bit F F0 = go (size F) (size-lt F) (size-reaches F)
+  where
+    go : (s : ℕ) → F < 2 ^ s → ((j : ℕ) → j < s → 2 ^ j ≤ F) → (t : ℕ) × (2 ^ t ≤ F) × (F < 2 ^ suc t)
+    go zero l r = absurd (let k : F < 1 = l in omega arith)
+    go (suc t) l r = (t, r t (omega arith), l)
+
+pub pow-below : (x y : ℕ) → 2 ^ x < 2 ^ y → x < y
+pow-below x y h = go (decLe y x)
+  where
+    go : Dec (y ≤ x) → x < y
+    go (yes l) = absurd (not-le-of-lt h (pow-mono l))
+    go (no n) = lt-of-not-le n
+
+pub below-top : (n t F : ℕ) → 2 ^ n ≤ F → F < 2 ^ suc t → n ≤ t
+below-top n t F h k = let l : n < suc t = pow-below n (suc t) (lt-of-le-of-lt h k) in omega arith

@@ -1,0 +1,79 @@
+-- Rounding depends on the value alone: two equal fractions are rounded alike. They lie in one cell of a grid that is chosen fine enough.
+use mathlib.Core.Path.{_≡_, refl, sym, ap, _∙_}
+use mathlib.Core.Bool.{Bool, true, false}
+use Prim.Native.Nat.{ℕ, zero, suc, _+_, _*_, _/_, _%_, _^_, _≤_, _<_}
+use native.Mathlib.Omega.{arith}
+use native.Mathlib.Nat.{le-of-lt, le-div-iff-mul-le, mul-le-mul, mul-le-mul-right, mod-lt, div-add-mod', eq-of-mul-eq-mul-right}
+use lib.Dec.{ltb}
+use lib.IntN.{ℤ, pos, negsuc, negℤ, natAbs, _*ℤ_}
+use lib.Pow.{pow-add}
+use borrow.Author.Tests.{lt-ltb}
+use Rattle.numbers.specs.Fraction.{Fraction, IsFraction, Equal, signed}
+use Rattle.numbers.specs.Rounding.{isNegative, round}
+use Rattle.numbers.specs.Answer.{Outcome, given, precisionOf, rounded, claimed, checked}
+use Rattle.numbers.specs.Grid.{InCell}
+use Rattle.numbers.specs.declared.number.Number.the-variants.{Zero}
+use Rattle.numbers.specs.declared.rounding.Task.{Task}
+use Rattle.numbers.specs.declared.rounding.Task.the-variants.{Round, Exact}
+use Rattle.numbers.proofs.Laws.Cell.{cell-ratio, same-cell}
+use Rattle.numbers.proofs.Laws.Signs.{abs-signed, negative-signed}
+use Rattle.numbers.proofs.Laws.Powers.{below-power}
+
+-- every number has a cell
+pub cell-of : (x u : ℕ) → 0 < u → InCell (ltb 0 (x % u)) x (x / u) u
+cell-of x u u0 = go (x % u) (div-add-mod' x u) (mod-lt x u0)
+  where
+    go : (r : ℕ) → x / u * u + r ≡ x → r < u → InCell (ltb 0 r) x (x / u) u
+    go zero e l = omega arith
+    go (suc r) e l = rw (lt-ltb 0 (suc r) (omega arith)) (omega arith, omega arith)
+
+-- zero stays zero
+pub rounded-zero : (task : Task) (x : Fraction) → natAbs (x .numerator) ≡ 0 → rounded task x ≡ given Zero
+unfolding rounded round claimed checked
+rounded-zero (Round r) x e = rw e
+rounded-zero (Exact c) x e = rw e
+
+-- equal fractions: the magnitudes' cross products, and the signs
+abs-times : (z : ℤ) (d : ℕ) → natAbs (z *ℤ pos d) ≡ natAbs z * d
+unfolding signed
+abs-times (pos a) d = refl
+abs-times (negsuc a) d = abs-signed true (suc a * d)
+
+pub equal-magnitudes : (x y : Fraction) → Equal x y → natAbs (x .numerator) * y .denominator ≡ natAbs (y .numerator) * x .denominator
+unfolding Equal
+equal-magnitudes x y e = sym (abs-times (x .numerator) (y .denominator)) ∙ ap natAbs e ∙ abs-times (y .numerator) (x .denominator)
+
+negative-times : (z : ℤ) (d : ℕ) → 0 < d → isNegative (z *ℤ pos d) ≡ isNegative z
+unfolding signed isNegative
+negative-times (pos a) d d0 = refl
+negative-times (negsuc a) d d0 = negative-signed true (suc a * d) (omega (arith, mul-le-mul-right a d0, mul-le-mul-right d (let l : 1 ≤ suc a = omega arith in l)))
+
+pub equal-signs : (x y : Fraction) → IsFraction x → IsFraction y → Equal x y → isNegative (x .numerator) ≡ isNegative (y .numerator)
+unfolding Equal IsFraction
+equal-signs x y x0 y0 e = sym (negative-times (x .numerator) (y .denominator) y0) ∙ ap isNegative e ∙ negative-times (y .numerator) (x .denominator) x0
+
+-- the grid 1 / 2^(n + b) is fine enough for a / b
+fine-enough : (a b n : ℕ) → 0 < a → 0 < b → 2 ^ n ≤ a * 2 ^ (n + b) / (b * 2 ^ 0)
+fine-enough a b n a0 b0 =
+    le-div-iff-mul-le {k = b * 2 ^ 0} (omega arith) .1
+    (omega (arith, ap (λ (m : ℕ). a * m) (pow-add 2 n b), mul-le-mul-right (2 ^ n) (mul-le-mul a0 (le-of-lt (below-power b)))))
+
+pub value-alone : (task : Task) (x y : Fraction) → IsFraction x → IsFraction y → 1 ≤ precisionOf task → Equal x y → rounded task x ≡ rounded task y
+unfolding IsFraction
+value-alone task x y x0 y0 n0 e = go (natAbs (x .numerator)) refl
+  where
+    cross : natAbs (x .numerator) * y .denominator ≡ natAbs (y .numerator) * x .denominator
+    cross = equal-magnitudes x y e
+    go : (a : ℕ) → natAbs (x .numerator) ≡ a → rounded task x ≡ rounded task y
+    go zero k =
+        rounded-zero task x k
+        ∙ sym (rounded-zero task y (eq-of-mul-eq-mul-right (x .denominator) x0 (natAbs (y .numerator)) 0 (omega (arith, cross, ap (λ (m : ℕ). m * y .denominator) k))))
+    go (suc a) k =
+        let o = precisionOf task + x .denominator in
+        let X = natAbs (x .numerator) * 2 ^ o in
+        let u = x .denominator * 2 ^ 0 in
+        let hx : InCell (ltb 0 (X % u)) X (X / u) u = cell-of X u (omega arith) in
+        same-cell x y (ltb 0 (X % u)) 0 o (X / u) x0 y0 (equal-signs x y x0 y0 e) hx
+        (cell-ratio (ltb 0 (X % u)) X (X / u) u (natAbs (y .numerator) * 2 ^ o) (y .denominator * 2 ^ 0) (y .denominator) (x .denominator) y0 x0
+        (omega (arith, ap (λ (m : ℕ). m * 2 ^ o) cross)) (omega arith) hx)
+        task n0 (fine-enough (natAbs (x .numerator)) (x .denominator) (precisionOf task) (omega arith) x0)

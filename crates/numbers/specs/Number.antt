@@ -1,0 +1,33 @@
+-- Document 01, "Numbers": which numbers are fit. A number is the enum `Number` of src/number.rs: Zero, or Finite with its sign (true for negative),
+-- its exponent and its significand.
+use mathlib.Core.Bool.{Bool, true, _&&_}
+use Prim.Native.Nat.{ℕ, _^_}
+use lib.Dec.{leb, ltb}
+use lib.IntN.{ℤ, pos, negℤ}
+use lib.Signed.{leZ}
+use Rattle.numbers.specs.declared.number.Number.{Number}
+use Rattle.numbers.specs.declared.number.Number.the-variants.{Zero, Finite}
+
+-- "The significand is a 64-bit whole number S with its top bit set."
+unfoldable pub isSignificand : ℕ → Bool
+isSignificand S = leb (2 ^ 63) S && ltb S (2 ^ 64)
+
+-- is e from `lowest` to `highest`?
+unfoldable pub isBetween : ℤ → ℤ → ℤ → Bool
+isBetween lowest highest e = leZ lowest e && leZ e highest
+
+-- "A nonzero number with the top bit of S clear, or with e outside the named range, is unfit. Zero is always fit."
+unfoldable pub isFit : ℤ → ℤ → Number → Bool
+isFit lowest highest Zero = true
+isFit lowest highest (Finite negative e S) = isBetween lowest highest e && isSignificand S
+
+-- "Working: e from −65,535 to 65,536."
+unfoldable pub isWorkingExponent : ℤ → Bool
+isWorkingExponent e = isBetween (negℤ (pos 65535)) (pos 65536) e
+
+unfoldable pub isWorking : Number → Bool
+isWorking x = isFit (negℤ (pos 65535)) (pos 65536) x
+
+-- "Admissible: e from −16,446 to 16,384."
+unfoldable pub isAdmissible : Number → Bool
+isAdmissible x = isFit (negℤ (pos 16446)) (pos 16384) x

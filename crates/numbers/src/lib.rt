@@ -1,0 +1,4 @@
+pub mod answer;
+pub mod number;
+pub mod operation;
+pub mod rounding;

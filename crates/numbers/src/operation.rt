@@ -1,0 +1,5 @@
+enum Operation {
+    Sum,
+    Difference,
+    Product,
+}

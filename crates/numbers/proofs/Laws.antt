@@ -3,6 +3,7 @@ pub mod Tests
 pub mod Powers
 pub mod Signs
 pub mod Exponent
+pub mod Bias
 pub mod Whole
 pub mod Cell
 pub mod Value

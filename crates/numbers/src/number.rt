@@ -1,5 +1,11 @@
 // Numbers, and the two ranges that say which of them are fit. Inside the crate an exponent is
 // biased: e + 65,535, a number from 0 to 131,071 for a working number.
+ghost use mathlib.Core.Path.{_≡_};
+ghost use mathlib.Core.Bool.{true};
+ghost use Prim.Native.Nat.{_≤_};
+ghost use lib.Ieee.{minus};
+ghost use Rattle.numbers.specs.Number.{isFit, isWorking, isAdmissible, isWorkingExponent};
+
 // Zero, or a sign, an exponent and a significand: sign × significand × 2^(exponent − 63).
 pub enum Number {
     Zero,
@@ -19,3 +25,59 @@ pub const HIGHEST_ADMISSIBLE: i32 = 16_384;
 // The lowest significand: its top bit alone.
 pub const TOP_BIT: u64 = 0x8000_0000_0000_0000;
 
+// Is x fit to be an operand of add, subtract and multiply?
+pub fn is_working(x: Number) -> bool
+    ensures { λ r. ⌜ r ≡ isWorking x ⌝ }
+{
+    is_fit(x, LOWEST_WORKING, HIGHEST_WORKING)
+}
+
+// Is x fit to be an operand of a division?
+pub fn is_admissible(x: Number) -> bool
+    ensures { λ r. ⌜ r ≡ isAdmissible x ⌝ }
+{
+    is_fit(x, LOWEST_ADMISSIBLE, HIGHEST_ADMISSIBLE)
+}
+
+// Is x zero, or has its significand the top bit set and is its exponent between the two ends?
+fn is_fit(x: Number, lowest: i32, highest: i32) -> bool
+    ensures { λ r. ⌜ r ≡ isFit lowest highest x ⌝ }
+{
+    let Number::Finite { negative: _, exponent, significand } = x else {
+        return true;
+    };
+    if lowest <= exponent {
+        if exponent <= highest {
+            return TOP_BIT <= significand;
+        }
+    }
+    false
+}
+
+// −x.
+pub fn negated(x: Number) -> Number {
+    match x {
+        Number::Zero => Number::Zero,
+        Number::Finite { negative, exponent, significand } => Number::Finite {
+            negative: !negative,
+            exponent,
+            significand,
+        },
+    }
+}
+
+// A working exponent with the bias added.
+pub fn biased(exponent: i32) -> u32
+    requires { ⌜ isWorkingExponent exponent ≡ true ⌝ }
+    ensures { λ r. ⌜ (exponent ≡ minus r 65535) × (r ≤ 131071) ⌝ }
+{
+    (exponent + 65_535) as u32
+}
+
+// The exponent that a biased one stands for.
+pub fn unbiased(b: u32) -> i32
+    requires { ⌜ b ≤ 131071 ⌝ }
+    ensures { λ r. ⌜ r ≡ minus b 65535 ⌝ }
+{
+    b as i32 - 65_535
+}

@@ -1,16 +1,11 @@
 -- Two-word magnitudes, for the contracts of private functions. No sentence of document 01 speaks of words, and no public promise cites this file.
-use mathlib.Core.Bool.{Bool, true, false}
+use mathlib.Core.Bool.{Bool}
 use Prim.Native.Nat.{ℕ, _+_, _*_, _^_}
 use Rattle.numbers.specs.Fraction.{Fraction, signed}
 
 -- high × 2^64 + low
 unfoldable pub wide : ℕ → ℕ → ℕ
 wide high low = high * 2 ^ 64 + low
-
--- a flag as a digit
-abbrev pub digit : Bool → ℕ
-digit true = 1
-digit false = 0
 
 -- where the last bit of a two-word magnitude stands at exponent 0: 2^−131,196
 unfoldable pub lastBit : ℕ

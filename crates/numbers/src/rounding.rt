@@ -1,4 +1,15 @@
-// Rounding to n bits.
+// Rounding to n bits: the six modes, the task of a step, and the one place where a magnitude of two
+// words is rounded. The two-word magnitude F at exponent x stands for F × 2^(x − 131,196).
+ghost use mathlib.Core.Path.{_≡_};
+ghost use mathlib.Core.Bool.{true};
+ghost use Prim.Native.Nat.{_+_, _*_, _^_, _≤_};
+ghost use lib.Ieee.{minus};
+ghost use Rattle.numbers.specs.Answer.{outcome, checked, taskOf};
+ghost use Rattle.numbers.specs.Rounding.{goesUp};
+ghost use Rattle.numbers.specs.Grid.{digit};
+use super::answer::Answer;
+use super::number::{Number, TOP_BIT, unbiased};
+
 pub enum Mode {
     Trunc,
     Away,
@@ -24,3 +35,72 @@ pub enum Task {
     Round(Rounding),
     Exact(Claim),
 }
+
+// The task that a code from 0 to 6 and a precision name.
+pub fn task_of(code: u32, precision: u32) -> Task
+    requires { ⌜ code ≤ 6 ⌝ }
+    ensures { λ r. ⌜ r ≡ taskOf code precision ⌝ }
+{
+    match code {
+        0 => Task::Round(Rounding { mode: Mode::Trunc, precision }),
+        1 => Task::Round(Rounding { mode: Mode::Away, precision }),
+        2 => Task::Round(Rounding { mode: Mode::Near, precision }),
+        3 => Task::Round(Rounding { mode: Mode::Sticky, precision }),
+        4 => Task::Round(Rounding { mode: Mode::Up, precision }),
+        5 => Task::Round(Rounding { mode: Mode::Down, precision }),
+        _ => Task::Exact(Claim { precision }),
+    }
+}
+
+// Does the whole number go up by one? The fraction is fraction / 2^64, and a little more where rest
+// is set.
+fn goes_up(mode: Mode, negative: bool, whole: u64, fraction: u64, rest: bool) -> bool
+    ensures { λ r. ⌜ r ≡ goesUp mode negative whole (2 * fraction + digit rest) (2 ^ 65) ⌝ }
+{
+    if fraction == 0 {
+        if !rest {
+            return false;
+        }
+    }
+    match mode {
+        Mode::Trunc => false,
+        Mode::Away => true,
+        Mode::Near => {
+            if fraction < TOP_BIT {
+                return false;
+            }
+            if TOP_BIT < fraction {
+                return true;
+            }
+            if rest {
+                return true;
+            }
+            whole % 2 == 1
+        }
+        Mode::Sticky => whole % 2 == 0,
+        Mode::Up => !negative,
+        Mode::Down => negative,
+    }
+}
+
+// The number with this significand, or a refusal of its exponent. The significand's top bit stands
+// zeros bits below bit 127 of the magnitude.
+fn placed(negative: bool, exponent: u32, zeros: u32, significand: u64) -> Answer
+    requires { ⌜ (exponent ≤ 262143) × (zeros ≤ 127) ⌝ }
+    ensures { λ r. ⌜ outcome r ≡ checked (Number.Finite negative (minus (exponent + 127) (131196 + zeros)) significand) ⌝ }
+{
+    let lowest = zeros + 65_534;
+    if exponent < lowest {
+        return Answer::ExponentOutside;
+    }
+    let b = exponent - lowest;
+    if 131_071 < b {
+        return Answer::ExponentOutside;
+    }
+    Answer::Given(Number::Finite {
+        negative,
+        exponent: unbiased(b),
+        significand,
+    })
+}
+

@@ -44,3 +44,20 @@ minus-small i o k a b = go (decLe o i)
     go : Dec (o ≤ i) → mag (minus i o) < k
     go (yes h) = rw (le-leb o i h) (omega arith)
     go (no n) = let h : i < o = lt-of-not-le n in rw (lt-leb o i h) (omega arith)
+
+-- is i - o working?
+pub working : (i o : ℕ) → o ≤ i + 65535 → i ≤ o + 65536 → isWorkingExponent (minus i o) ≡ true
+unfolding isWorkingExponent isBetween
+working i o a b = go (decLe o i)
+  where
+    go : Dec (o ≤ i) → isWorkingExponent (minus i o) ≡ true
+    go (yes h) = rw (minus-down i o h) (le-leb (i - o) 65536 (omega arith))
+    go (no n) = let h : i < o = lt-of-not-le n in rw (minus-up i o h, le-leb (o - suc i) 65534 (omega arith))
+
+pub too-low : (i o : ℕ) → i + 65535 < o → isWorkingExponent (minus i o) ≡ false
+unfolding isWorkingExponent isBetween
+too-low i o h = rw (minus-up i o (omega arith), lt-leb (o - suc i) 65534 (omega arith))
+
+pub too-high : (i o : ℕ) → o + 65536 < i → isWorkingExponent (minus i o) ≡ false
+unfolding isWorkingExponent isBetween
+too-high i o h = rw (minus-down i o (omega arith)) (lt-leb (i - o) 65536 (omega arith))

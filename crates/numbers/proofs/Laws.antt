@@ -7,3 +7,7 @@ pub mod Bias
 pub mod Whole
 pub mod Cell
 pub mod Value
+pub mod Words
+pub mod Wide
+pub mod Alike
+pub mod Top

@@ -4,19 +4,21 @@ use mathlib.Core.Bool.{Bool, true, false}
 use Prim.Native.Nat.{ℕ, zero, suc, _+_, _*_, _/_, _%_, _^_, _≤_, _<_}
 use native.Mathlib.Omega.{arith}
 use native.Mathlib.Nat.{le-of-lt, le-div-iff-mul-le, mul-le-mul, mul-le-mul-right, mod-lt, div-add-mod', eq-of-mul-eq-mul-right}
-use lib.Dec.{ltb}
+use lib.Dec.{ltb, lit<}
 use lib.IntN.{ℤ, pos, negsuc, negℤ, natAbs, _*ℤ_}
 use lib.Pow.{pow-add}
 use borrow.Author.Tests.{lt-ltb}
 use Rattle.numbers.specs.Fraction.{Fraction, IsFraction, Equal, signed}
-use Rattle.numbers.specs.Rounding.{isNegative, round}
+use Rattle.numbers.specs.Rounding.{wholeOf, isNegative, round}
 use Rattle.numbers.specs.Answer.{Outcome, given, precisionOf, rounded, claimed, checked}
 use Rattle.numbers.specs.Grid.{InCell}
 use Rattle.numbers.specs.declared.number.Number.the-variants.{Zero}
+use Rattle.numbers.specs.declared.rounding.Mode.{Mode}
 use Rattle.numbers.specs.declared.rounding.Task.{Task}
 use Rattle.numbers.specs.declared.rounding.Task.the-variants.{Round, Exact}
 use Rattle.numbers.proofs.Laws.Cell.{cell-ratio, same-cell}
 use Rattle.numbers.proofs.Laws.Signs.{abs-signed, negative-signed}
+use Rattle.numbers.proofs.Laws.Whole.{whole-cell, fraction-cell}
 use Rattle.numbers.proofs.Laws.Powers.{below-power}
 
 -- every number has a cell
@@ -26,6 +28,21 @@ cell-of x u u0 = go (x % u) (div-add-mod' x u) (mod-lt x u0)
     go : (r : ℕ) → x / u * u + r ≡ x → r < u → InCell (ltb 0 r) x (x / u) u
     go zero e l = omega arith
     go (suc r) e l = rw (lt-ltb 0 (suc r) (omega arith)) (omega arith, omega arith)
+
+-- what a / b is made a whole number to, and whether it is one, depend on the quotient alone
+module _ (a b c d : ℕ) (b0 : 0 < b) (d0 : 0 < d) (same : a * d ≡ c * b) where
+  one-cell : InCell (ltb 0 (a * (2 * 1) % b)) (c * (2 * 1)) (a * (2 * 1) / b) d
+  one-cell = cell-ratio (ltb 0 (a * (2 * 1) % b)) (a * (2 * 1)) (a * (2 * 1) / b) b (c * (2 * 1)) d d b d0 b0 (omega arith) (omega arith) (cell-of (a * (2 * 1)) b b0)
+
+  pub whole-alone : (mode : Mode) (negative : Bool) → wholeOf mode negative a b ≡ wholeOf mode negative c d
+  whole-alone mode negative =
+      whole-cell (ltb 0 (a * (2 * 1) % b)) a b (a * (2 * 1) / b) 1 b0 (lit< tt) (cell-of (a * (2 * 1)) b b0) mode negative
+      ∙ sym (whole-cell (ltb 0 (a * (2 * 1) % b)) c d (a * (2 * 1) / b) 1 d0 (lit< tt) one-cell mode negative)
+
+  pub fraction-alone : ltb 0 (a % b) ≡ ltb 0 (c % d)
+  fraction-alone =
+      fraction-cell (ltb 0 (a * (2 * 1) % b)) a b (a * (2 * 1) / b) 1 b0 (lit< tt) (cell-of (a * (2 * 1)) b b0)
+      ∙ sym (fraction-cell (ltb 0 (a * (2 * 1) % b)) c d (a * (2 * 1) / b) 1 d0 (lit< tt) one-cell)
 
 -- zero stays zero
 pub rounded-zero : (task : Task) (x : Fraction) → natAbs (x .numerator) ≡ 0 → rounded task x ≡ given Zero

@@ -99,7 +99,7 @@ module _ (rest : Bool) (r b f K : ℕ) (b0 : 0 < b) (K0 : 0 < K) (h : InCell res
   goes-up Down negative q = rw some
 
 -- a flag added to twice a number, divided by twice another
-flagged : (rest : Bool) (F J : ℕ) → 0 < J → ((2 * F + digit rest) / (2 * J) ≡ F / J) × ((2 * F + digit rest) % (2 * J) ≡ 2 * (F % J) + digit rest)
+pub flagged : (rest : Bool) (F J : ℕ) → 0 < J → ((2 * F + digit rest) / (2 * J) ≡ F / J) × ((2 * F + digit rest) % (2 * J) ≡ 2 * (F % J) + digit rest)
 flagged rest F J J0 = go rest (F / J) (F % J) (div-add-mod' F J) (mod-lt F J0)
   where
     low : (rest : Bool) (f : ℕ) → f < J → 2 * f + digit rest < 2 * J

@@ -1,7 +1,14 @@
 -- Two-word magnitudes, for the contracts of private functions. No sentence of document 01 speaks of words, and no public promise cites this file.
-use mathlib.Core.Bool.{Bool}
-use Prim.Native.Nat.{ℕ, _+_, _*_, _^_}
+use mathlib.Core.Bool.{Bool, cond}
+use Prim.Native.Nat.{ℕ, _+_, _-_, _*_, _%_, _^_}
+use lib.Dec.{eqb}
+use lib.IntN.{ℤ}
+use Rattle.numbers.specs.Answer.{Outcome, given, refused, checked}
 use Rattle.numbers.specs.Fraction.{Fraction, signed}
+use Rattle.numbers.specs.Number.{isWorkingExponent}
+use Rattle.numbers.specs.Rounding.{wholeOf, placed}
+use Rattle.numbers.specs.declared.rounding.Mode.{Mode}
+use Rattle.numbers.specs.declared.rounding.Mode.the-variants.{Trunc}
 
 -- high × 2^64 + low
 unfoldable pub wide : ℕ → ℕ → ℕ
@@ -14,3 +21,13 @@ lastBit = 131196
 -- sign × F × 2^(exponent − 131,196)
 unfoldable pub scaledValue : Bool → ℕ → ℕ → Fraction
 scaledValue negative F exponent = record { numerator = signed negative (F * 2 ^ exponent); denominator = 2 ^ lastBit }
+
+-- A magnitude F of 128 bits with its top bit set, whose exponent is e: rounded to its upper n bits, and claimed to have no more.
+unfoldable pub roundedTop : Mode → Bool → ℤ → ℕ → ℕ → Outcome
+roundedTop mode negative e n F = checked (placed negative e n (wholeOf mode negative F (2 ^ (128 - n))))
+
+unfoldable pub claimedTop : Bool → ℤ → ℕ → ℕ → Outcome
+claimedTop negative e n F =
+    cond (isWorkingExponent e)
+    (cond (eqb (F % 2 ^ (128 - n)) 0) (given (placed negative e n (wholeOf Trunc negative F (2 ^ (128 - n))))) (refused 8))
+    (refused 7)

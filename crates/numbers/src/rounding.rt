@@ -2,13 +2,16 @@
 // words is rounded. The two-word magnitude F at exponent x stands for F × 2^(x − 131,196).
 ghost use mathlib.Core.Path.{_≡_};
 ghost use mathlib.Core.Bool.{true};
-ghost use Prim.Native.Nat.{_+_, _*_, _^_, _≤_};
+ghost use Prim.Native.Nat.{_+_, _*_, _^_, _≤_, _<_};
 ghost use lib.Ieee.{minus};
-ghost use Rattle.numbers.specs.Answer.{outcome, checked, taskOf};
+ghost use Rattle.numbers.specs.Answer.{outcome, checked, taskOf, precisionOf, rounded};
+ghost use Rattle.numbers.specs.Number.{isWorkingExponent};
 ghost use Rattle.numbers.specs.Rounding.{goesUp};
+ghost use Rattle.numbers.specs.Words.{wide, lastBit, scaledValue, roundedTop, claimedTop};
 ghost use Rattle.numbers.specs.Grid.{digit};
 use super::answer::Answer;
 use super::number::{Number, TOP_BIT, unbiased};
+use super::words::{Words, leading_zeros, shift_left, shift_right};
 
 pub enum Mode {
     Trunc,
@@ -83,24 +86,68 @@ fn goes_up(mode: Mode, negative: bool, whole: u64, fraction: u64, rest: bool) ->
     }
 }
 
-// The number with this significand, or a refusal of its exponent. The significand's top bit stands
-// zeros bits below bit 127 of the magnitude.
+// Is the exponent working of a magnitude at this exponent whose top bit stands zeros bits below
+// bit 127?
+fn is_inside(exponent: u32, zeros: u32) -> bool
+    requires { ⌜ (exponent ≤ 262143) × (zeros ≤ 127) ⌝ }
+    ensures { λ r. ⌜ r ≡ isWorkingExponent (minus (exponent + 127) (lastBit + zeros)) ⌝ }
+{
+    if exponent < zeros + 65_534 {
+        return false;
+    }
+    exponent - (zeros + 65_534) <= 131_071
+}
+
+// The number with this significand, or a refusal of its exponent.
 fn placed(negative: bool, exponent: u32, zeros: u32, significand: u64) -> Answer
     requires { ⌜ (exponent ≤ 262143) × (zeros ≤ 127) ⌝ }
-    ensures { λ r. ⌜ outcome r ≡ checked (Number.Finite negative (minus (exponent + 127) (131196 + zeros)) significand) ⌝ }
+    ensures { λ r. ⌜ outcome r ≡ checked (Number.Finite negative (minus (exponent + 127) (lastBit + zeros)) significand) ⌝ }
 {
-    let lowest = zeros + 65_534;
-    if exponent < lowest {
-        return Answer::ExponentOutside;
-    }
-    let b = exponent - lowest;
-    if 131_071 < b {
+    if !is_inside(exponent, zeros) {
         return Answer::ExponentOutside;
     }
     Answer::Given(Number::Finite {
         negative,
-        exponent: unbiased(b),
+        exponent: unbiased(exponent - (zeros + 65_534)),
         significand,
     })
 }
 
+// A magnitude with its top bit at bit 127, rounded by a mode.
+fn round_top(negative: bool, exponent: u32, zeros: u32, top: Words, rounding: Rounding) -> Answer
+    requires { ⌜ (exponent ≤ 262142) × (zeros ≤ 127) × (wide (top .high) (top .low) < 2 ^ 128) × (1 ≤ rounding .precision) × (rounding .precision ≤ 64) ⌝ }
+    ensures { λ r. ⌜ outcome r ≡ roundedTop (rounding .mode) negative (minus (exponent + 127) (lastBit + zeros)) (rounding .precision) (wide (top .high) (top .low)) ⌝ }
+{
+    let shift = 64 - rounding.precision;
+    let mode = rounding.mode;
+    let cell = shift_right(top, shift);
+    let significand = cell.high << shift;
+    if !goes_up(mode, negative, cell.high, cell.low, cell.rest) {
+        return placed(negative, exponent, zeros, significand);
+    }
+    let unit = 1u64 << shift;
+    if u64::MAX - significand < unit {
+        placed(negative, exponent + 1, zeros, TOP_BIT)
+    } else {
+        placed(negative, exponent, zeros, significand + unit)
+    }
+}
+
+// A magnitude with its top bit at bit 127, claimed to have at most so many bits.
+fn claim_top(negative: bool, exponent: u32, zeros: u32, top: Words, claim: Claim) -> Answer
+    requires { ⌜ (exponent ≤ 262142) × (zeros ≤ 127) × (wide (top .high) (top .low) < 2 ^ 128) × (1 ≤ claim .precision) × (claim .precision ≤ 64) ⌝ }
+    ensures { λ r. ⌜ outcome r ≡ claimedTop negative (minus (exponent + 127) (lastBit + zeros)) (claim .precision) (wide (top .high) (top .low)) ⌝ }
+{
+    if !is_inside(exponent, zeros) {
+        return Answer::ExponentOutside;
+    }
+    let shift = 64 - claim.precision;
+    let cell = shift_right(top, shift);
+    if cell.low > 0 {
+        return Answer::TooManyBits;
+    }
+    if cell.rest {
+        return Answer::TooManyBits;
+    }
+    placed(negative, exponent, zeros, cell.high << shift)
+}

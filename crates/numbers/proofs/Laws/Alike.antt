@@ -5,17 +5,18 @@ use mathlib.Core.Logic.{_↔_}
 use Prim.Native.Nat.{ℕ, zero, suc, zero-le, _+_, _*_, _/_, _%_, _^_, _≤_, _<_}
 use native.Mathlib.Omega.{arith}
 use native.Mathlib.Nat.{le-antisymm, le-of-eq, lt-of-lt-of-le, lt-of-not-le, not-le-of-lt, mul-le-mul, mul-le-mul-right, lt-of-mul-lt-mul-right, le-div-iff-mul-le}
-use lib.Dec.{T, leb, ltb, leb→le, le→leb, leb·zero, leb·suc-zero, leb·suc-suc}
+use lib.Dec.{ltb, leb→le, le→leb}
 use lib.IntN.{ℤ, pos, negsuc, natAbs, _*ℤ_}
 use lib.Pow.{pow-pos}
-use lib.Signed.{leZ, _≤ℤ_}
+use lib.Signed.{_≤ℤ_}
 use Rattle.numbers.specs.Fraction.{Fraction, IsFraction, Equal, AtMost, signed}
 use Rattle.numbers.specs.Rounding.{isNegative}
 use Rattle.numbers.specs.Answer.{precisionOf, rounded}
 use Rattle.numbers.specs.Grid.{InCell, HasCell, digit, cellValue, multiple, Alike}
 use Rattle.numbers.specs.declared.rounding.Task.{Task}
 use Rattle.numbers.proofs.Laws.Cell.{same-cell}
-use Rattle.numbers.proofs.Laws.Signs.{abs-signed, negative-signed, signed-abs, signed-times}
+use Rattle.numbers.proofs.Laws.Ratio.{Ordered}
+use Rattle.numbers.proofs.Laws.Signs.{abs-signed, negative-signed, signed-abs, signed-times, signed-order, signed-ordered}
 use Rattle.numbers.proofs.Laws.Value.{cell-of, value-alone}
 
 -- ---- the cell law
@@ -64,15 +65,6 @@ cell-law task x i o F true x0 n0 fine h =
 
 -- ---- alike
 
--- the order of two whole numbers of one sign
-order-signed : (s : Bool) (p q : ℕ) → leZ (signed s p) (signed s q) ≡ cond s (leb q p) (leb p q)
-unfolding signed
-order-signed false p q = refl
-order-signed true zero zero = refl
-order-signed true zero (suc q) = sym (leb·suc-zero q)
-order-signed true (suc p) zero = sym (leb·zero (suc p))
-order-signed true (suc p) (suc q) = sym (leb·suc-suc q p)
-
 -- no multiple of u or v tells X and Y apart: then they have one cell
 one-cell : (rest : Bool) (X Y u v F : ℕ) → ((m : ℕ) → (m * u ≤ X) ↔ (m * v ≤ Y)) → ((m : ℕ) → (X ≤ m * u) ↔ (Y ≤ m * v)) → InCell rest X F u → InCell rest Y F v
 one-cell false X Y u v F low high h = le-antisymm (high F .0 (le-of-eq h)) (low F .0 (le-of-eq (sym h)))
@@ -80,32 +72,19 @@ one-cell true X Y u v F low high h =
     (lt-of-not-le (λ (k : Y ≤ F * v). not-le-of-lt (h .0) (high F .1 k)),
     (let l : Y < (F + 1) * v = lt-of-not-le (λ (k : (F + 1) * v ≤ Y). not-le-of-lt (h .1) (let z : (F + 1) * u ≤ X = low (F + 1) .1 k in omega arith)) in omega arith))
 
--- the order of two magnitudes, turned round where both are negative
-abbrev Ordered : Bool → ℕ → ℕ → Type 0
-Ordered false p q = p ≤ q
-Ordered true p q = q ≤ p
-
-ordered : (s : Bool) (p q : ℕ) → signed s p ≤ℤ signed s q → Ordered s p q
-ordered false p q h = leb→le p q (subst T (order-signed false p q) (h .le))
-ordered true p q h = leb→le q p (subst T (order-signed true p q) (h .le))
-
-order : (s : Bool) (p q : ℕ) → Ordered s p q → signed s p ≤ℤ signed s q
-order false p q h = record { le = subst T (sym (order-signed false p q)) (le→leb p q h) }
-order true p q h = record { le = subst T (sym (order-signed true p q)) (le→leb q p h) }
-
 -- what it means that no multiple tells two fractions of one sign apart, in magnitudes
 module _ (s : Bool) (a b c d i o : ℕ) (alike : Alike i o (record { numerator = signed s a; denominator = c }) (record { numerator = signed s b; denominator = d })) where
   up-to : (m : ℕ) → Ordered s (m * 2 ^ i * c) (a * 2 ^ o) ↔ Ordered s (m * 2 ^ i * d) (b * 2 ^ o)
   unfolding Alike AtMost multiple
   up-to m =
-      (λ h. ordered s (m * 2 ^ i * d) (b * 2 ^ o) (simp signed-times at (alike (signed s m) .0 .0 (simp signed-times (order s (m * 2 ^ i * c) (a * 2 ^ o) h)))),
-      λ h. ordered s (m * 2 ^ i * c) (a * 2 ^ o) (simp signed-times at (alike (signed s m) .0 .1 (simp signed-times (order s (m * 2 ^ i * d) (b * 2 ^ o) h)))))
+      (λ h. signed-ordered s (m * 2 ^ i * d) (b * 2 ^ o) (simp signed-times at (alike (signed s m) .0 .0 (simp signed-times (signed-order s (m * 2 ^ i * c) (a * 2 ^ o) h)))),
+      λ h. signed-ordered s (m * 2 ^ i * c) (a * 2 ^ o) (simp signed-times at (alike (signed s m) .0 .1 (simp signed-times (signed-order s (m * 2 ^ i * d) (b * 2 ^ o) h)))))
 
   down-to : (m : ℕ) → Ordered s (a * 2 ^ o) (m * 2 ^ i * c) ↔ Ordered s (b * 2 ^ o) (m * 2 ^ i * d)
   unfolding Alike AtMost multiple
   down-to m =
-      (λ h. ordered s (b * 2 ^ o) (m * 2 ^ i * d) (simp signed-times at (alike (signed s m) .1 .0 (simp signed-times (order s (a * 2 ^ o) (m * 2 ^ i * c) h)))),
-      λ h. ordered s (a * 2 ^ o) (m * 2 ^ i * c) (simp signed-times at (alike (signed s m) .1 .1 (simp signed-times (order s (b * 2 ^ o) (m * 2 ^ i * d) h)))))
+      (λ h. signed-ordered s (b * 2 ^ o) (m * 2 ^ i * d) (simp signed-times at (alike (signed s m) .1 .0 (simp signed-times (signed-order s (a * 2 ^ o) (m * 2 ^ i * c) h)))),
+      λ h. signed-ordered s (a * 2 ^ o) (m * 2 ^ i * c) (simp signed-times at (alike (signed s m) .1 .1 (simp signed-times (signed-order s (b * 2 ^ o) (m * 2 ^ i * d) h)))))
 
 -- two such fractions have one cell
 alike-cell : (s : Bool) (a b c d i o : ℕ) → Alike i o (record { numerator = signed s a; denominator = c }) (record { numerator = signed s b; denominator = d })

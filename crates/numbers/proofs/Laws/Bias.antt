@@ -61,3 +61,15 @@ too-low i o h = rw (minus-up i o (omega arith), lt-leb (o - suc i) 65534 (omega 
 pub too-high : (i o : ℕ) → o + 65536 < i → isWorkingExponent (minus i o) ≡ false
 unfolding isWorkingExponent isBetween
 too-high i o h = rw (minus-down i o (omega arith)) (lt-leb (i - o) 65536 (omega arith))
+
+pub working-range : (i o : ℕ) → isWorkingExponent (minus i o) ≡ true → (o ≤ i + 65535) × (i ≤ o + 65536)
+working-range i o h = (low (decLe o (i + 65535)), high (decLe i (o + 65536)))
+  where
+    apart : isWorkingExponent (minus i o) ≡ false → ⊥
+    apart k = let z : _≡_ {A = ℕ} 0 1 = cc in omega arith
+    low : Dec (o ≤ i + 65535) → o ≤ i + 65535
+    low (yes l) = l
+    low (no n) = absurd (apart (too-low i o (lt-of-not-le n)))
+    high : Dec (i ≤ o + 65536) → i ≤ o + 65536
+    high (yes l) = l
+    high (no n) = absurd (apart (too-high i o (lt-of-not-le n)))

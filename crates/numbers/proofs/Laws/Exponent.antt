@@ -7,14 +7,14 @@ use Prim.Native.Nat.{ℕ, zero, suc, _+_, _*_, _-_, _^_, _≤_, _<_}
 use native.Mathlib.Omega.{arith}
 use native.Mathlib.Nat.{mul-le-mul-left, mul-le-mul-right, mul-lt-mul-of-pos-right, mul-lt-mul-of-pos-left, mul-le-mul, le-of-lt, lt-of-lt-of-le, lt-of-le-of-lt, lt-of-mul-lt-mul-right, le-of-mul-le-mul-right, not-le-of-lt, lt-of-not-le, pow-succ'}
 use native.Mathlib.Decide.{decLe}
-use lib.IntN.{ℤ, pos, negsuc, predℤ}
-use lib.Dec.{T, leb, leb→le, nleb→lt}
+use lib.IntN.{ℤ, pos, negsuc, sucℤ, predℤ, suc-pred}
+use lib.Dec.{T, leb, leb→le, nleb→lt, leb·zero, leb·suc-zero}
 use lib.Pow.{pow-add, pow-pos, pow-mono, pow-lt}
 use lib.Ieee.{size, up, down, minus}
 use lib.Ieee.Digits.{size-lt, size-reaches, minus-val}
 use lib.Ieee.Fits.{up-pos, down-pos}
 use borrow.Author.Tests.{le-leb, lt-leb}
-use Rattle.numbers.proofs.Laws.Powers.{pow-below}
+use Rattle.numbers.proofs.Laws.Powers.{pow-below, top-bit}
 use Rattle.numbers.specs.Rounding.{exponentOf, settled}
 
 -- i - o depends on the difference alone
@@ -35,9 +35,14 @@ pred-minus i o = go (leb o i) (leb→le o i) (nleb→lt o i)
     at : (n : ℕ) → i ≡ o + n → predℤ (pos n) ≡ minus i (suc o)
     at zero e = rw (lt-leb (suc o) i (omega arith)) (ap negsuc (omega arith))
     at (suc n) e = rw (le-leb (suc o) i (omega arith)) (ap pos (omega arith))
+
     go : (s : Bool) → (T s → o ≤ i) → (T (not s) → i < o) → predℤ (cond s (pos (i - o)) (negsuc (o - suc i))) ≡ minus i (suc o)
     go true h k = at (i - o) (let a : o ≤ i = h tt in omega arith)
     go false h k = rw (lt-leb (suc o) i (let a : i < o = k tt in omega arith)) (ap negsuc (let a : i < o = k tt in omega arith))
+
+-- one more
+pub suc-minus : (i o : ℕ) → sucℤ (minus i o) ≡ minus (suc i) o
+suc-minus i o = ap sucℤ (minus-same i o (suc i) (suc o) (omega arith) ∙ sym (pred-minus (suc i) o)) ∙ suc-pred (minus (suc i) o)
 
 -- the two digit counts differ by the exponent or by one more
 sizes : (a b i o s t : ℕ) → 2 ^ s ≤ a → a < 2 ^ suc s → 2 ^ t ≤ b → b < 2 ^ suc t → b * 2 ^ i ≤ a * 2 ^ o → a * 2 ^ o < 2 * (b * 2 ^ i)
@@ -46,8 +51,10 @@ sizes a b i o s t a0 a1 b0 b1 h k = pick (decLe (s + o) (t + i))
   where
     low : t + i < suc s + o
     low = pow-below (t + i) (suc s + o) (rw (pow-add 2 t i, pow-add 2 (suc s) o) (lt-of-le-of-lt (mul-le-mul-right (2 ^ i) b0) (lt-of-le-of-lt h (mul-lt-mul-of-pos-right a1 (pow-pos o)))))
+
     high : s + o < suc (suc t + i)
     high = pow-below (s + o) (suc (suc t + i)) (rw (pow-add 2 s o) (lt-of-le-of-lt (mul-le-mul-right (2 ^ o) a0) (lt-of-lt-of-le k (omega (arith, mul-le-mul-right (2 ^ i) (le-of-lt b1), pow-add 2 (suc t) i)))))
+
     pick : Dec (s + o ≤ t + i) → (s + o ≡ t + i) ⊎ (s + o ≡ t + i + 1)
     pick (yes l) = inl (omega (arith, low))
     pick (no n) = inr (omega (arith, high))
@@ -86,3 +93,38 @@ exponent-unique a b i o a0 b0 h k = go (size a) (size b) (size-lt a) (size-reach
         (λ (e : s + o ≡ t + i). rw (minus-same (suc s) (suc t) i o (omega arith)) (kept a b i o h))
         (λ (e : s + o ≡ t + i + 1). rw (minus-same (suc s) (suc t) (suc i) o (omega arith)) (lowered a b i o (omega (arith, k, ap (λ (n : ℕ). b * n) (pow-succ' 2 i)))))
         (sizes a b i o s t (ar s (omega arith)) a1 (br t (omega arith)) b1 h k)
+
+-- the same for an exponent e: 2^e is up e / down e
+pub exponent-named : (a b : ℕ) (e : ℤ) → 0 < a → 0 < b → b * up e ≤ a * down e → a * down e < 2 * (b * up e) → exponentOf a b ≡ e
+exponent-named a b (pos k) a0 b0 h l = exponent-unique a b k 0 a0 b0 h l ∙ rw (leb·zero k) (ap pos (omega arith))
+exponent-named a b (negsuc k) a0 b0 h l = exponent-unique a b 0 (suc k) a0 b0 h l ∙ rw (leb·suc-zero k) (ap negsuc (omega arith))
+
+-- and the exponent fulfils both: the difference of the two top bits does, or one less
+module _ (a b : ℕ) (a0 : 0 < a) (b0 : 0 < b) where
+  reached : (i : ℕ) × (o : ℕ) × (b * 2 ^ i ≤ a * 2 ^ o) × (a * 2 ^ o < 2 * (b * 2 ^ i))
+  reached = go (top-bit a a0) (top-bit b b0)
+    where
+      go : (t : ℕ) × (2 ^ t ≤ a) × (a < 2 ^ suc t) → (t : ℕ) × (2 ^ t ≤ b) × (b < 2 ^ suc t)
+          → (i : ℕ) × (o : ℕ) × (b * 2 ^ i ≤ a * 2 ^ o) × (a * 2 ^ o < 2 * (b * 2 ^ i))
+      go (s, low, high) (t, least, most) = pick (decLe (b * 2 ^ s) (a * 2 ^ t))
+        where
+          pick : Dec (b * 2 ^ s ≤ a * 2 ^ t) → (i : ℕ) × (o : ℕ) × (b * 2 ^ i ≤ a * 2 ^ o) × (a * 2 ^ o < 2 * (b * 2 ^ i))
+          pick (yes l) = (s, t, l, omega (arith, mul-lt-mul-of-pos-right {k = 2 ^ t} high (pow-pos t), mul-le-mul-right (2 ^ s) least, ap (λ (m : ℕ). m * 2 ^ t) (pow-succ' 2 s)))
+          pick (no n) =
+              let l : a * 2 ^ t < b * 2 ^ s = lt-of-not-le n in
+              (s, suc t, omega (arith, mul-le-mul-right (2 ^ s) most, mul-le-mul-right (2 ^ suc t) low, ap (λ (m : ℕ). a * m) (pow-succ' 2 t)), omega (arith, ap (λ (m : ℕ). a * m) (pow-succ' 2 t)))
+
+  named : exponentOf a b ≡ minus (reached .0) (reached .1)
+  named = exponent-unique a b (reached .0) (reached .1) a0 b0 (reached .2) (reached .3)
+
+  pub exponent-reaches : b * up (exponentOf a b) ≤ a * down (exponentOf a b)
+  exponent-reaches = rw named (at-most a b (reached .0) (reached .1) (reached .2))
+
+  pub exponent-below : a * down (exponentOf a b) < 2 * (b * up (exponentOf a b))
+  exponent-below = rw named (omega (arith, above a (2 * b) (reached .0) (reached .1) (omega (arith, reached .3))))
+
+-- 2^(e + 1) is twice 2^e
+pub up-suc : (e : ℤ) → up (sucℤ e) * down e ≡ 2 * up e * down (sucℤ e)
+up-suc (pos k) = omega (arith, pow-succ' 2 k)
+up-suc (negsuc zero) = refl
+up-suc (negsuc (suc k)) = omega (arith, pow-succ' 2 (suc k))

@@ -16,6 +16,13 @@ power-parts n t n0 h =
     ∙ sym (pow-add 2 (n - 1) (suc (t - n)))
     ∙ ap (λ (m : ℕ). 2 ^ m) (let e : n - 1 + suc (t - n) ≡ t = omega arith in e)
 
+-- twice 2^(n - 1) is 2^n, and in a word 2^(n - 1) is followed by 64 - n bits
+pub power-twice : (n : ℕ) → 1 ≤ n → 2 ^ n ≡ 2 * 2 ^ (n - 1)
+power-twice n n0 = ap (λ (m : ℕ). 2 ^ m) (let e : n ≡ suc (n - 1) = omega arith in e) ∙ pow-succ' 2 (n - 1)
+
+pub word-parts : (n : ℕ) → 1 ≤ n → n ≤ 64 → 2 ^ (n - 1) * 2 ^ (64 - n) ≡ 2 ^ 63
+word-parts n n0 n1 = omega (arith, power-parts n 64 n0 n1)
+
 -- a number is below its own power
 pub below-power : (n : ℕ) → n < 2 ^ n
 below-power zero = lit< tt

@@ -1,15 +1,18 @@
--- A whole number by its sign and its magnitude: how `signed` goes through sums and products.
+-- A whole number by its sign and its magnitude: how `signed` goes through sums, products and differences, and its order.
 use mathlib.Core.Path.{_≡_, refl, sym, ap, _∙_}
-use mathlib.Core.Bool.{Bool, true, false, not}
-use Prim.Native.Nat.{ℕ, zero, suc, _+_, _-_, _*_, _≤_, _<_}
+use mathlib.Core.Bool.{Bool, true, false, not, Bool·not-not}
+use Prim.Native.Nat.{ℕ, zero, suc, zero-le, suc-le-suc, _+_, _-_, _*_, _≤_, _<_}
 use native.Mathlib.Omega.{arith}
-use native.Mathlib.Decide.{decLt}
-use native.Mathlib.Nat.{zero-mul, mul-zero, lt-of-not-le}
-use lib.IntN.{ℤ, pos, negsuc, negℤ, natAbs, subℕ, _+ℤ_, _*ℤ_}
+use native.Mathlib.Decide.{decLe, decLt}
+use native.Mathlib.Nat.{zero-mul, mul-zero, le-of-lt, lt-of-not-le}
+use lib.IntN.{ℤ, pos, negsuc, negℤ, natAbs, subℕ, _+ℤ_, _-ℤ_, _*ℤ_, +ℤ-comm, negℤ-negℤ}
+use lib.Signed.{_≤ℤ_, leZ-yes}
+use lib.Dec.{leb→le, le→leb}
 use lib.Ieee.{unlike}
 use borrow.Author.Tests.{lt-ltb, le-ltb}
 use Rattle.numbers.specs.Fraction.{signed}
 use Rattle.numbers.specs.Rounding.{isNegative}
+use Rattle.numbers.proofs.Laws.Ratio.{gap, Ordered}
 
 pub abs-signed : (s : Bool) (a : ℕ) → natAbs (signed s a) ≡ a
 unfolding signed
@@ -82,3 +85,40 @@ other-sign true (suc a) b h = go (decLt b (suc a))
     go (no n) =
         let e : suc a ≤ b = (let l : suc a < suc b = lt-of-not-le n in omega arith) in
         sub-down b (suc a) e ∙ ap pos (let z : b - suc a ≡ 0 = omega arith in z) ∙ sym (ap (λ (n : ℕ). negℤ (pos n)) (let z : suc a - b ≡ 0 = omega arith in z))
+
+-- the magnitude of a difference
+neg-signed : (s : Bool) (a : ℕ) → negℤ (signed s a) ≡ signed (not s) a
+unfolding signed
+neg-signed false a = refl
+neg-signed true a = negℤ-negℤ (pos a)
+
+pub abs-difference : (s : Bool) (a b : ℕ) → natAbs (signed s a -ℤ signed s b) ≡ gap a b
+abs-difference s a b = rw (neg-signed s b) (go (decLe b a))
+  where
+    go : Dec (b ≤ a) → natAbs (signed s a +ℤ signed (not s) b) ≡ gap a b
+    go (yes h) = rw (other-sign s a b h, abs-signed s (a - b)) (omega arith)
+    go (no n) =
+        let h : a < b = lt-of-not-le n in
+        ap natAbs
+        (+ℤ-comm (signed s a) (signed (not s) b)
+        ∙ ap (λ (t : Bool). signed (not s) b +ℤ signed t a) (sym (Bool·not-not s))
+        ∙ other-sign (not s) b a (le-of-lt h))
+        ∙ abs-signed (not s) (b - a)
+        ∙ omega arith
+
+-- the order
+pub signed-order : (s : Bool) (a b : ℕ) → Ordered s a b → signed s a ≤ℤ signed s b
+unfolding signed
+signed-order false a b h = leZ-yes (le→leb a b h)
+signed-order true zero zero h = leZ-yes tt
+signed-order true zero (suc b) h = absurd (omega arith)
+signed-order true (suc a) zero h = leZ-yes tt
+signed-order true (suc a) (suc b) h = leZ-yes (le→leb b a (omega arith))
+
+pub signed-ordered : (s : Bool) (a b : ℕ) → signed s a ≤ℤ signed s b → Ordered s a b
+unfolding signed
+signed-ordered false a b h = leb→le a b (h .le)
+signed-ordered true zero zero h = zero-le
+signed-ordered true zero (suc b) h = absurd (h .le)
+signed-ordered true (suc a) zero h = zero-le
+signed-ordered true (suc a) (suc b) h = suc-le-suc (leb→le b a (h .le))

@@ -3,11 +3,11 @@ use mathlib.Core.Path.{_≡_, refl, sym, ap, _∙_}
 use mathlib.Core.Bool.{Bool, true, false, not, _&&_, cond}
 use Prim.Native.Nat.{ℕ, zero, suc, _+_, _-_, _*_, _/_, _%_, _^_, _≤_, _<_}
 use native.Mathlib.Omega.{arith}
-use native.Mathlib.Nat.{add-comm, le-trans, mul-one, mul-le-mul, pow-succ'}
+use native.Mathlib.Nat.{add-comm, add-zero, le-antisymm, le-of-eq, le-trans, lt-irrefl, lt-of-le-of-lt, lt-of-lt-of-le, mod-eq-of-lt, mul-assoc, mul-comm, mul-one, mul-le-mul, mul-lt-mul-of-pos-right, le-of-mul-le-mul-right, lt-of-mul-lt-mul-right, div-lt-iff-lt-mul, pow-succ'}
 use lib.Arith.{digits-div, digits-mod}
 use lib.Dec.{ltb, eqb}
 use lib.Ieee.{minus}
-use lib.IntN.{ℤ, natAbs}
+use lib.IntN.{ℤ, natAbs, sucℤ}
 use lib.Pow.{pow-add, pow-pos}
 use borrow.Author.Tests.{eq-eqb, ne-eqb}
 use Rattle.numbers.specs.Number.{isWorkingExponent}
@@ -56,6 +56,58 @@ module _ (F n high low : ℕ) (rest : Bool) (n1 : n ≤ 64) (word : low < 2 ^ 64
   top-bits =
       fraction-cell rest F (2 ^ (128 - n)) (wide high low) (2 ^ 63) (pow-pos (128 - n)) (pow-pos 63) cell
       ∙ rw (flagged rest (wide high low) (2 ^ 64) (pow-pos 64) .1, lower)
+
+  pub high-small : F < 2 ^ 128 → high < 2 ^ n
+  unfolding wide
+  high-small F1 =
+      lt-of-mul-lt-mul-right (2 ^ 64)
+      (lt-of-le-of-lt (le-of-wide high low (F / 2 ^ (64 - n)) shifted)
+      (div-lt-iff-lt-mul (pow-pos (64 - n)) .1 (rw (mul-assoc (2 ^ n) (2 ^ 64) (2 ^ (64 - n)), mul-comm (2 ^ 64) (2 ^ (64 - n)), word-above n n1, ← pow-add 2 n (128 - n)) (rw (whole-width n n1) F1))))
+    where
+      le-of-wide : (h l q : ℕ) → h * 2 ^ 64 + l ≡ q → h * 2 ^ 64 ≤ q
+      le-of-wide h l q e = omega arith
+      whole-width : (n : ℕ) → n ≤ 64 → n + (128 - n) ≡ 128
+      whole-width n h = omega arith
+
+-- The whole number q + 1 or q of n bits as a significand: the unit 2^(64 - n) is added in the last place, and passes 2^64 where q + 1 is 2^n.
+module _ (negative : Bool) (e : ℤ) (n q : ℕ) (n1 : n ≤ 64) (q1 : q < 2 ^ n) where
+  word : 2 ^ n * 2 ^ (64 - n) ≡ 2 ^ 64
+  word = sym (pow-add 2 n (64 - n)) ∙ ap (λ (m : ℕ). 2 ^ m) (let l : n + (64 - n) ≡ 64 = omega arith in l)
+
+  pub significand-is : q * 2 ^ (64 - n) % 2 ^ 64 ≡ q * 2 ^ (64 - n)
+  significand-is = mod-eq-of-lt (lt-of-lt-of-le (mul-lt-mul-of-pos-right q1 (pow-pos (64 - n))) (le-of-eq word))
+
+  pub placed-same : placed negative e n (q + 0) ≡ Finite negative e (q * 2 ^ (64 - n))
+  unfolding placed
+  placed-same = rw (ne-eqb (q + 0) (2 ^ n) (λ (z : q + 0 ≡ 2 ^ n). omega arith), add-zero q)
+
+  pub placed-carry : 2 ^ 64 ≤ q * 2 ^ (64 - n) + 2 ^ (64 - n) → placed negative e n (q + 1) ≡ Finite negative (sucℤ e) (2 ^ 63)
+  unfolding placed
+  placed-carry h =
+      rw (eq-eqb (q + 1) (2 ^ n) (le-antisymm (le-of-suc q1) (le-of-mul-le-mul-right {k = 2 ^ (64 - n)} (le-trans (le-of-eq word) (le-trans h (grown q (2 ^ (64 - n))))) (pow-pos (64 - n)))))
+    where
+      le-of-suc : {a b : ℕ} → a < b → a + 1 ≤ b
+      le-of-suc l = omega arith
+      grown : (a u : ℕ) → a * u + u ≤ (a + 1) * u
+      grown a u = omega arith
+
+  pub placed-next : q * 2 ^ (64 - n) + 2 ^ (64 - n) < 2 ^ 64 → placed negative e n (q + 1) ≡ Finite negative e (q * 2 ^ (64 - n) + 2 ^ (64 - n))
+  unfolding placed
+  placed-next h = rw (ne-eqb (q + 1) (2 ^ n) (λ (z : q + 1 ≡ 2 ^ n). full z)) (ap (Finite negative e) (one-more q (2 ^ (64 - n))))
+    where
+      one-more : (a u : ℕ) → (a + 1) * u ≡ a * u + u
+      one-more a u = omega arith
+      full : q + 1 ≡ 2 ^ n → ⊥
+      full z = lt-irrefl (2 ^ 64) (lt-of-le-of-lt (le-of-eq (sym word ∙ ap (λ (m : ℕ). m * 2 ^ (64 - n)) (sym z) ∙ one-more q (2 ^ (64 - n)))) h)
+
+-- the upper n bits, cut off, are what trunc gives
+pub upper-bits : (F n high low : ℕ) (rest : Bool) → n ≤ 64 → low < 2 ^ 64 → wide high low ≡ F / 2 ^ (64 - n) → rest ≡ ltb 0 (F % 2 ^ (64 - n)) → F < 2 ^ 128
+    → (negative : Bool) (e : ℤ) → Finite negative e (high * 2 ^ (64 - n) % 2 ^ 64) ≡ placed negative e n (wholeOf Trunc negative F (2 ^ (128 - n)))
+unfolding goesUp
+upper-bits F n high low rest n1 word shifted dropped F1 negative e =
+    let q1 = high-small F n high low rest n1 word shifted dropped F1 in
+    ap (Finite negative e) (significand-is negative e n high n1 q1)
+    ∙ sym (ap (placed negative e n) (top-whole F n high low rest n1 word shifted dropped Trunc negative) ∙ placed-same negative e n high n1 q1)
 
 -- sign × F × 2^(x - 131,196), with z leading zeros above F
 module _ (negative : Bool) (F x z n : ℕ) (n0 : 1 ≤ n) (n1 : n ≤ 64) (low : 2 ^ 127 ≤ F * 2 ^ z) (high : F * 2 ^ z < 2 ^ 128) where

@@ -1,51 +1,61 @@
--- `numbers::rounding::placed` meets its contract: the exponent is (exponent + 127) - (131,196 + zeros), and the two tests say whether it is working.
-use mathlib.Core.Path.{_≡_, _∙_}
-use mathlib.Core.Bool.{Bool}
-use Prim.Native.Nat.{ℕ, _+_, _-_, _≤_, _<_}
+-- `numbers::rounding::placed` meets its contract: the exponent is (exponent + 127) - (131,196 + zeros).
+use mathlib.Core.Path.{_≡_, sym, _∙_}
+use mathlib.Core.Bool.{Bool, true, false}
+use Prim.Native.Nat.{ℕ, _+_, _-_, _≤_}
 use native.Mathlib.Omega.{arith}
 use borrow.Author.Needs.{needs}
+use borrow.Author.Tests.{not-true, not-false}
 use lib.Ieee.{minus}
 use lib.IntN.{ℤ}
 use mir.Facts.{toZ-ofZ}
 use mir.Syntax.{w32}
 use mir.Val.{SFits, toZ, ofZ}
 use Rattle.numbers.specs.Answer.{outcome, checked}
+use Rattle.numbers.specs.Number.{isWorkingExponent}
+use Rattle.numbers.specs.Words.{lastBit}
 use Rattle.numbers.specs.declared.answer.Answer.the-variants.{Given, ExponentOutside}
 use Rattle.numbers.specs.declared.number.Number.the-variants.{Finite}
-use Rattle.numbers.proofs.Laws.Bias.{too-low, too-high, working}
+use Rattle.numbers.proofs.Laws.Bias.{working-range}
 use Rattle.numbers.proofs.Laws.Exponent.{minus-same}
 use Rattle.numbers.proofs.rounding.placed.Statement.{statement}
 use Rattle.numbers.proofs.rounding.placed.Tie as tie
 
-module _ (negative : Bool) (S x z : ℕ) where
-  low : x < z + 65534 → outcome ExponentOutside ≡ checked (Finite negative (minus (x + 127) (131196 + z)) S)
+module _ (negative : Bool) (S x z : ℕ) (inside : Bool) (e : inside ≡ isWorkingExponent (minus (x + 127) (lastBit + z))) where
+  outside : inside ≡ false → outcome ExponentOutside ≡ checked (Finite negative (minus (x + 127) (lastBit + z)) S)
   unfolding outcome checked
-  low h = rw (too-low (x + 127) (131196 + z) (omega arith))
+  outside h = rw (sym e ∙ h)
 
-  high : z + 65534 ≤ x → 131071 < x - (z + 65534) → outcome ExponentOutside ≡ checked (Finite negative (minus (x + 127) (131196 + z)) S)
+  range : inside ≡ true → (z + 65534 ≤ x) × (x - (z + 65534) ≤ 131071)
+  unfolding lastBit
+  range h = let r = working-range (x + 127) (lastBit + z) (sym e ∙ h) in (omega (arith, r .0), omega (arith, r .1))
+
+  same : inside ≡ true → minus (x - (z + 65534)) 65535 ≡ minus (x + 127) (lastBit + z)
+  unfolding lastBit
+  same h = let r = working-range (x + 127) (lastBit + z) (sym e ∙ h) in minus-same (x - (z + 65534)) 65535 (x + 127) (lastBit + z) (omega (arith, r .0))
+
+  fit : inside ≡ true → (r : ℤ) → SFits w32 r → r ≡ minus (x - (z + 65534)) 65535 → outcome (Given (Finite negative (toZ w32 (ofZ w32 r)) S)) ≡ checked (Finite negative (minus (x + 127) (lastBit + z)) S)
   unfolding outcome checked
-  high h k = rw (too-high (x + 127) (131196 + z) (omega arith))
+  fit h r fits k = rw (toZ-ofZ fits, k ∙ same h, sym e ∙ h)
 
-  fit : (r : ℤ) → SFits w32 r → r ≡ minus (x - (z + 65534)) 65535 → z + 65534 ≤ x → x - (z + 65534) ≤ 131071
-      → outcome (Given (Finite negative (toZ w32 (ofZ w32 r)) S)) ≡ checked (Finite negative (minus (x + 127) (131196 + z)) S)
-  unfolding outcome checked
-  fit r fits e h k =
-      rw (toZ-ofZ fits, e ∙ minus-same (x - (z + 65534)) 65535 (x + 127) (131196 + z) (omega arith), working (x + 127) (131196 + z) (omega arith) (omega arith))
-
-add-lowest : tie.Need-add-lowest
-add-lowest c = search needs
+is-inside-requires : tie.Need-is-inside-requires
+is-inside-requires c κs = search needs
 
 returns : tie.Need-returns
-returns c = low _ _ _ _ (c .if1 .taken)
+returns c = outside _ _ _ _ _ (c .before .is-inside .ensures) (not-true _ (c .if1 .taken))
 
-returns-2 : tie.Need-returns-2
-returns-2 c = high _ _ _ _ (c .before .if1 .left) (c .if2 .taken)
+add-unbiased : tie.Need-add-unbiased
+add-unbiased c = search needs
+
+sub-unbiased : tie.Need-sub-unbiased
+sub-unbiased c = range (c .before .before .args .negative) (c .before .before .args .significand) _ _ _ (c .before .is-inside .ensures) (not-false _ (c .if1 .left)) .0
 
 unbiased-requires : tie.Need-unbiased-requires
-unbiased-requires c κs = search needs
+unbiased-requires c κs = range (c .before .before .args .negative) (c .before .before .args .significand) _ _ _ (c .before .is-inside .ensures) (not-false _ (c .if1 .left)) .1
 
-returns-3 : tie.Need-returns-3
-returns-3 c = fit _ _ _ _ _ (record { sfits = c .unbiased .ok }) (c .unbiased .ensures) (c .before .before .if1 .left) (c .before .if2 .left)
+returns-2 : tie.Need-returns-2
+returns-2 c = fit _ _ _ _ _ (c .before .before .is-inside .ensures) (not-false _ (c .before .if1 .left)) _ (record { sfits = c .unbiased .ok }) (c .unbiased .ensures)
 
 pub placed-spec : {M : Type 1} → statement M
-placed-spec = tie.close (tie.spec add-lowest returns returns-2 unbiased-requires returns-3)
+placed-spec =
+    tie.close
+    (tie.spec is-inside-requires returns add-unbiased sub-unbiased unbiased-requires returns-2)

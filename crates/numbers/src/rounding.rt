@@ -151,3 +151,21 @@ fn claim_top(negative: bool, exponent: u32, zeros: u32, top: Words, claim: Claim
     }
     placed(negative, exponent, zeros, cell.high << shift)
 }
+
+// A two-word magnitude rounded once, or claimed exact, by its task.
+pub fn round(negative: bool, exponent: u32, magnitude: Words, task: Task) -> Answer
+    requires { ⌜ (exponent ≤ 262142) × (1 ≤ precisionOf task) × (precisionOf task ≤ 64) ⌝ }
+    ensures { λ r. ⌜ outcome r ≡ rounded task (scaledValue negative (wide (magnitude .high) (magnitude .low)) exponent) ⌝ }
+{
+    if magnitude.high == 0 {
+        if magnitude.low == 0 {
+            return Answer::Given(Number::Zero);
+        }
+    }
+    let zeros = leading_zeros(magnitude);
+    let top = shift_left(magnitude, zeros);
+    match task {
+        Task::Round(rounding) => round_top(negative, exponent, zeros, top, rounding),
+        Task::Exact(claim) => claim_top(negative, exponent, zeros, top, claim),
+    }
+}

@@ -9,9 +9,12 @@ pub mod Whole
 pub mod Cell
 pub mod Value
 pub mod Alike
+pub mod Fractions
 pub mod Misses
 pub mod Rounded
 pub mod Bounds
 pub mod Words
 pub mod Wide
+pub mod Sum
+pub mod Aligned
 pub mod Top

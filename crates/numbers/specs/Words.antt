@@ -1,12 +1,13 @@
 -- Two-word magnitudes, for the contracts of private functions. No sentence of document 01 speaks of words, and no public promise cites this file.
 use mathlib.Core.Bool.{Bool, cond}
-use Prim.Native.Nat.{ℕ, _+_, _-_, _*_, _%_, _^_}
+use Prim.Native.Nat.{ℕ, _+_, _-_, _*_, _/_, _%_, _^_, _≤_, _<_}
 use lib.Dec.{eqb}
 use lib.IntN.{ℤ}
 use Rattle.numbers.specs.Answer.{Outcome, given, refused, checked}
 use Rattle.numbers.specs.Fraction.{Fraction, signed}
 use Rattle.numbers.specs.Number.{isWorkingExponent}
 use Rattle.numbers.specs.Rounding.{wholeOf, placed}
+use Rattle.numbers.specs.declared.operand.Operand.{Operand}
 use Rattle.numbers.specs.declared.rounding.Mode.{Mode}
 use Rattle.numbers.specs.declared.rounding.Mode.the-variants.{Trunc}
 
@@ -31,3 +32,26 @@ claimedTop negative e n F =
     cond (isWorkingExponent e)
     (cond (eqb (F % 2 ^ (128 - n)) 0) (given (placed negative e n (wholeOf Trunc negative F (2 ^ (128 - n))))) (refused 8))
     (refused 7)
+
+-- the odd one of F and F + 1
+unfoldable pub oddOf : ℕ → ℕ
+oddOf F = F / 2 * 2 + 1
+
+-- A working number taken apart: sign × significand × 2^(exponent − 65,598), twice 65,598 being 131,196.
+unfoldable pub operandValue : Operand → Fraction
+operandValue a = scaledValue (a .negative) (a .significand) (a .exponent + 65598)
+
+-- zero has significand and exponent 0, any other operand has its top bit set
+pub record IsOperand (a : Operand) : Type 0 where
+  pub biased : a .exponent ≤ 131071
+  pub word : a .significand < 2 ^ 64
+  pub normal : 0 < a .significand + a .exponent → 2 ^ 63 ≤ a .significand
+
+-- the larger operand stands first
+pub record IsAligned (large small : Operand) : Type 0 where
+  pub biased : large .exponent ≤ 131071
+  pub later : small .exponent ≤ large .exponent
+  pub large-word : large .significand < 2 ^ 64
+  pub small-word : small .significand < 2 ^ 64
+  pub larger : small .significand ≤ large .significand * 2 ^ (large .exponent - small .exponent)
+  pub normal : 0 < large .significand → 2 ^ 63 ≤ large .significand

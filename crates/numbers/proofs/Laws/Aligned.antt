@@ -1,0 +1,119 @@
+-- Two aligned operands: the shifted smaller one leaves room in two words, a rest means that they stand far apart, and the sum or the difference is
+-- rounded as its cell says.
+use mathlib.Core.Path.{_≡_, refl, sym, ap, ap₂, _∙_}
+use mathlib.Core.Bool.{Bool, true, false, not, cond}
+use Prim.Native.Nat.{ℕ, zero, suc, _+_, _-_, _*_, _/_, _%_, _^_, _≤_, _<_}
+use native.Mathlib.Decide.{decLe}
+use native.Mathlib.Nat.{le-of-lt, le-trans, lt-of-not-le, lt-of-lt-of-le, lt-of-le-of-lt, lt-of-mul-lt-mul-right, le-of-mul-le-mul-right, mul-assoc, mul-le-mul-left, mul-le-mul-right, mul-lt-mul-of-pos-right, div-le-self}
+use native.Mathlib.Omega.{arith}
+use lib.Dec.{ltb, lit≤}
+use lib.IntN.{ℤ}
+use lib.Pow.{pow-add, pow-pos, pow-mono}
+use Rattle.numbers.specs.Fraction.{Fraction, IsFraction, Equal, signed, sum}
+use Rattle.numbers.specs.Answer.{precisionOf, rounded}
+use Rattle.numbers.specs.Grid.{InCell, digit}
+use Rattle.numbers.specs.Words.{lastBit, scaledValue, oddOf, operandValue, IsAligned}
+use Rattle.numbers.specs.declared.operand.Operand.{Operand}
+use Rattle.numbers.specs.declared.rounding.Task.{Task}
+use Rattle.numbers.proofs.Laws.Fractions.{fraction, same-sum, other-sum, sum-fraction}
+use Rattle.numbers.proofs.Laws.Sum.{cell-rounds, cell-added, cell-subtracted, raised-power, shifted-cell}
+use Rattle.numbers.proofs.Laws.Value.{cell-of, value-alone}
+
+-- ---- over plain numbers: k for 2^63, w for 2^64, g for the shift's power
+
+two-words : (a b y k w : ℕ) → 0 < k → a < w → b < w → y ≤ b * k → a * k + y < (w + w) * k
+two-words a b y k w k0 ha hb h = omega (arith, mul-le-mul-right k ha, mul-le-mul-right k hb)
+
+room : (rest : Bool) (a b y k g : ℕ) → 0 < g → b ≤ a * g → InCell rest (b * k) y g → digit rest + y ≤ a * k
+room false a b y k g g0 h c = le-of-mul-le-mul-right {k = g} (omega (arith, mul-le-mul-right k h)) g0
+room true a b y k g g0 h c = let l : y < a * k = lt-of-mul-lt-mul-right g (omega (arith, c .0, mul-le-mul-right k h)) in omega arith
+
+-- a number that is a multiple of the grid has no rest
+no-rest : (m y g : ℕ) → InCell true (m * g) y g → ⊥
+no-rest m y g c =
+    let a : y < m = lt-of-mul-lt-mul-right g (c .0) in
+    let b : m < y + 1 = lt-of-mul-lt-mul-right g (omega (arith, c .1)) in
+    omega arith
+
+-- with a rest the shift is by more than 63
+far : (b y d : ℕ) → InCell true (b * 2 ^ 63) y (2 ^ d) → 64 ≤ d
+far b y d c = go (decLe 64 d)
+  where
+    parts : d ≤ 63 → b * 2 ^ 63 ≡ b * 2 ^ (63 - d) * 2 ^ d
+    parts l = ap (λ (n : ℕ). b * n) (ap (λ (n : ℕ). 2 ^ n) (let e : 63 ≡ 63 - d + d = omega arith in e) ∙ pow-add 2 (63 - d) d) ∙ sym (mul-assoc b (2 ^ (63 - d)) (2 ^ d))
+    go : Dec (64 ≤ d) → 64 ≤ d
+    go (yes l) = l
+    go (no n) = absurd (no-rest (b * 2 ^ (63 - d)) y (2 ^ d) (rw (parts (let l = lt-of-not-le n in omega arith)) at c))
+
+-- and so the sum or the difference F keeps more than 65 bits
+wide-enough : (a b y k w g F : ℕ) → w ≡ 2 * k → 8 ≤ k → b < w → w ≤ g → (0 < a → k ≤ a) → b ≤ a * g → InCell true (b * k) y g → a * k ≤ F + 1 + y → 2 * w ≤ F
+wide-enough zero b y k w g F e k0 b1 far normal h c l = absurd (let z : b ≡ 0 = omega arith in omega (arith, c .0, ap (λ (n : ℕ). n * k) z))
+wide-enough (suc a) b y k w g F e k0 b1 far normal h c l =
+    let a0 : k ≤ suc a = normal (omega arith) in
+    let short : y < k = lt-of-mul-lt-mul-right w (omega (arith, c .0, mul-le-mul-left y far, mul-le-mul-right k b1)) in
+    omega (arith, mul-le-mul-right k a0, mul-le-mul-right k k0)
+
+-- what lies in the cell y lies below l on the grid, where the cell does
+under : (rest : Bool) (b y g l : ℕ) → InCell rest b y g → digit rest + y ≤ l → b ≤ l * g
+under false b y g l c h = omega (arith, mul-le-mul-right g h)
+under true b y g l c h = omega (arith, c .1, mul-le-mul-right g h)
+
+flag : (rest : Bool) (m y l : ℕ) → m + digit rest + y ≡ l → l ≤ m + 1 + y
+flag false m y l e = omega arith
+flag true m y l e = omega arith
+
+-- ---- of two operands
+
+module _ (large small : Operand) (h : IsAligned large small) (task : Task) (n0 : 1 ≤ precisionOf task) (n1 : precisionOf task ≤ 64)
+    (Y : ℕ) (rest : Bool) (shifted : Y ≡ small .significand * 2 ^ 63 / 2 ^ (large .exponent - small .exponent))
+    (dropped : rest ≡ ltb 0 (small .significand * 2 ^ 63 % 2 ^ (large .exponent - small .exponent))) where
+  cell : InCell rest (small .significand * 2 ^ 63) Y (2 ^ (large .exponent - small .exponent))
+  cell = rw (shifted, dropped) (cell-of (small .significand * 2 ^ 63) (2 ^ (large .exponent - small .exponent)) (pow-pos (large .exponent - small .exponent)))
+
+  pub sum-fits : large .significand * 2 ^ 63 + Y < 2 ^ 128
+  sum-fits =
+      two-words (large .significand) (small .significand) Y (2 ^ 63) (2 ^ 64) (pow-pos 63) (h .large-word) (h .small-word)
+      (rw shifted (div-le-self (small .significand * 2 ^ 63) (2 ^ (large .exponent - small .exponent))))
+
+  pub borrow-fits : digit rest + Y ≤ large .significand * 2 ^ 63
+  borrow-fits = room rest (large .significand) (small .significand) Y (2 ^ 63) (2 ^ (large .exponent - small .exponent)) (pow-pos (large .exponent - small .exponent)) (h .larger) cell
+
+  -- where there is a rest, F has more bits than the task asks
+  fine : (F : ℕ) → large .significand * 2 ^ 63 ≤ F + 1 + Y → rest ≡ true → 2 * 2 ^ precisionOf task ≤ F
+  fine F l e =
+      let c : InCell true (small .significand * 2 ^ 63) Y (2 ^ (large .exponent - small .exponent)) = rw e at cell in
+      le-trans (mul-le-mul-left 2 (pow-mono n1))
+      (wide-enough (large .significand) (small .significand) Y (2 ^ 63) (2 ^ 64) (2 ^ (large .exponent - small .exponent)) F refl (lit≤ tt) (h .small-word) (pow-mono (far (small .significand) Y (large .exponent - small .exponent) c))
+      (h .normal) (h .larger) c l)
+
+  grid-cell : InCell rest (small .significand * 2 ^ (small .exponent + 65598)) Y (2 ^ (large .exponent + 65535))
+  grid-cell = shifted-cell rest (small .significand) (small .exponent) (large .exponent) Y (h .later) cell
+
+  pub added-rounds : small .negative ≡ large .negative
+      → rounded task (scaledValue (large .negative) (cond rest (oddOf (large .significand * 2 ^ 63 + Y)) (large .significand * 2 ^ 63 + Y)) (large .exponent + 65535)) ≡ rounded task (sum (operandValue large) (operandValue small))
+  unfolding operandValue scaledValue IsFraction
+  added-rounds sign =
+      let s = large .negative in
+      let F = large .significand * 2 ^ 63 + Y in
+      let A = large .significand * 2 ^ (large .exponent + 65598) in
+      let B = small .significand * 2 ^ (small .exponent + 65598) in
+      sym (cell-rounds task s (A + B) F (large .exponent + 65535) rest n0 (fine F (omega arith)) (rw (raised-power (large .significand) (large .exponent)) (cell-added rest (large .significand * 2 ^ 63) B Y (2 ^ (large .exponent + 65535)) grid-cell)))
+      ∙ rw sign
+      (sym (value-alone task (sum (fraction (signed s A) (2 ^ lastBit)) (fraction (signed s B) (2 ^ lastBit))) (fraction (signed s (A + B)) (2 ^ lastBit))
+      (sum-fraction (fraction (signed s A) (2 ^ lastBit)) (fraction (signed s B) (2 ^ lastBit)) (pow-pos lastBit) (pow-pos lastBit)) (pow-pos lastBit) n0 (same-sum s A B (2 ^ lastBit))))
+
+  pub subtracted-rounds : small .negative ≡ not (large .negative) → (m : ℕ) → m + digit rest + Y ≡ large .significand * 2 ^ 63
+      → rounded task (scaledValue (large .negative) (cond rest (oddOf m) m) (large .exponent + 65535)) ≡ rounded task (sum (operandValue large) (operandValue small))
+  unfolding operandValue scaledValue IsFraction
+  subtracted-rounds sign m e =
+      let s = large .negative in
+      let A = large .significand * 2 ^ (large .exponent + 65598) in
+      let B = small .significand * 2 ^ (small .exponent + 65598) in
+      let G = 2 ^ (large .exponent + 65535) in
+      let L = large .significand * 2 ^ 63 in
+      let on-grid : A ≡ L * G = raised-power (large .significand) (large .exponent) in
+      let less : B ≤ L * G = under rest B Y G L grid-cell borrow-fits in
+      sym (cell-rounds task s (A - B) m (large .exponent + 65535) rest n0 (fine m (flag rest m Y L e)) (rw on-grid (cell-subtracted rest L B Y G m less e grid-cell)))
+      ∙ rw sign
+      (sym (value-alone task (sum (fraction (signed s A) (2 ^ lastBit)) (fraction (signed (not s) B) (2 ^ lastBit))) (fraction (signed s (A - B)) (2 ^ lastBit))
+      (sum-fraction (fraction (signed s A) (2 ^ lastBit)) (fraction (signed (not s) B) (2 ^ lastBit)) (pow-pos lastBit) (pow-pos lastBit)) (pow-pos lastBit) n0 (other-sum s A B (2 ^ lastBit) (rw on-grid less))))

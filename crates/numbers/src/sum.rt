@@ -1,0 +1,72 @@
+// The sum of two operands. The larger one stands with its top bit at bit 126 of a two-word
+// magnitude, the smaller one is shifted right to it, and what is shifted out leaves a rest.
+ghost use mathlib.Core.Path.{_≡_};
+ghost use mathlib.Core.Bool.{not, cond};
+ghost use Prim.Native.Nat.{_*_, _^_, _≤_};
+ghost use Rattle.numbers.specs.Answer.{outcome, precisionOf, rounded};
+ghost use Rattle.numbers.specs.Fraction.{sum as exactSum};
+ghost use Rattle.numbers.specs.Grid.{digit};
+ghost use Rattle.numbers.specs.Words.{wide, oddOf, operandValue, IsOperand, IsAligned};
+use super::answer::Answer;
+use super::operand::Operand;
+use super::rounding::{Task, round};
+use super::words::{Words, remainder, shift_right, total};
+
+// significand × 2^63.
+fn raised(significand: u64) -> Words
+    ensures { λ r. ⌜ wide (r .high) (r .low) ≡ significand * 2 ^ 63 ⌝ }
+{
+    Words {
+        high: significand / 2,
+        low: significand % 2 * 0x8000_0000_0000_0000,
+    }
+}
+
+// One where there is a rest.
+fn borrow(rest: bool) -> Words
+    ensures { λ r. ⌜ wide (r .high) (r .low) ≡ digit rest ⌝ }
+{
+    if rest {
+        Words { high: 0, low: 1 }
+    } else {
+        Words { high: 0, low: 0 }
+    }
+}
+
+// The magnitude, made odd where there is a rest below its last bit.
+fn sticky(a: Words, rest: bool) -> Words
+    ensures { λ r. ⌜ wide (r .high) (r .low) ≡ cond rest (oddOf (wide (a .high) (a .low))) (wide (a .high) (a .low)) ⌝ }
+{
+    if rest {
+        Words {
+            high: a.high,
+            low: a.low / 2 * 2 + 1,
+        }
+    } else {
+        a
+    }
+}
+
+// The sum of a larger and a smaller operand of one sign.
+fn added(large: Operand, small: Operand, task: Task) -> Answer
+    requires { ⌜ IsAligned large small × (small .negative ≡ large .negative) × (1 ≤ precisionOf task) × (precisionOf task ≤ 64) ⌝ }
+    ensures { λ r. ⌜ outcome r ≡ rounded task (exactSum (operandValue large) (operandValue small)) ⌝ }
+{
+    let top = raised(large.significand);
+    let cell = shift_right(raised(small.significand), large.exponent - small.exponent);
+    let magnitude = total(top, Words { high: cell.high, low: cell.low });
+    round(large.negative, large.exponent + 65_535, sticky(magnitude, cell.rest), task)
+}
+
+// The sum of a larger and a smaller operand of two signs. Where there is a rest, the exact difference
+// lies in the cell below, so one more is taken off.
+fn subtracted(large: Operand, small: Operand, task: Task) -> Answer
+    requires { ⌜ IsAligned large small × (small .negative ≡ not (large .negative)) × (1 ≤ precisionOf task) × (precisionOf task ≤ 64) ⌝ }
+    ensures { λ r. ⌜ outcome r ≡ rounded task (exactSum (operandValue large) (operandValue small)) ⌝ }
+{
+    let top = raised(large.significand);
+    let cell = shift_right(raised(small.significand), large.exponent - small.exponent);
+    let less = remainder(top, Words { high: cell.high, low: cell.low });
+    let magnitude = remainder(less, borrow(cell.rest));
+    round(large.negative, large.exponent + 65_535, sticky(magnitude, cell.rest), task)
+}

@@ -17,4 +17,5 @@ pub mod Words
 pub mod Wide
 pub mod Sum
 pub mod Aligned
+pub mod Operands
 pub mod Top

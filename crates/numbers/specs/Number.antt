@@ -1,6 +1,6 @@
 -- Document 01, "Numbers": which numbers are fit. A number is the enum `Number` of src/number.rs: Zero, or Finite with its sign (true for negative),
 -- its exponent and its significand.
-use mathlib.Core.Bool.{Bool, true, _&&_}
+use mathlib.Core.Bool.{Bool, true, not, _&&_}
 use Prim.Native.Nat.{ℕ, _^_}
 use lib.Dec.{leb, ltb}
 use lib.IntN.{ℤ, pos, negℤ}
@@ -31,3 +31,8 @@ isWorking x = isFit (negℤ (pos 65535)) (pos 65536) x
 -- "Admissible: e from −16,446 to 16,384."
 unfoldable pub isAdmissible : Number → Bool
 isAdmissible x = isFit (negℤ (pos 16446)) (pos 16384) x
+
+-- −x: "Zero has no sign."
+unfoldable pub opposite : Number → Number
+opposite Zero = Zero
+opposite (Finite negative e S) = Finite (not negative) e S

@@ -4,7 +4,7 @@ ghost use mathlib.Core.Path.{_≡_};
 ghost use mathlib.Core.Bool.{true};
 ghost use Prim.Native.Nat.{_≤_};
 ghost use lib.Ieee.{minus};
-ghost use Rattle.numbers.specs.Number.{isFit, isWorking, isAdmissible, isWorkingExponent};
+ghost use Rattle.numbers.specs.Number.{isFit, isWorking, isAdmissible, isWorkingExponent, opposite};
 
 // Zero, or a sign, an exponent and a significand: sign × significand × 2^(exponent − 63).
 pub enum Number {
@@ -55,7 +55,9 @@ fn is_fit(x: Number, lowest: i32, highest: i32) -> bool
 }
 
 // −x.
-pub fn negated(x: Number) -> Number {
+pub fn negated(x: Number) -> Number
+    ensures { λ r. ⌜ r ≡ opposite x ⌝ }
+{
     match x {
         Number::Zero => Number::Zero,
         Number::Finite { negative, exponent, significand } => Number::Finite {

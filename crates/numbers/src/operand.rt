@@ -1,4 +1,11 @@
 // A working number taken apart, for the operations: zero has significand and exponent 0.
+ghost use mathlib.Core.Path.{_≡_};
+ghost use mathlib.Core.Bool.{true};
+ghost use Rattle.numbers.specs.Fraction.{Equal, value};
+ghost use Rattle.numbers.specs.Number.{isWorking};
+ghost use Rattle.numbers.specs.Words.{operandValue, IsOperand};
+use super::number::{Number, biased};
+
 // sign × significand × 2^(exponent − 65,598).
 pub struct Operand {
     pub negative: bool,
@@ -6,3 +13,20 @@ pub struct Operand {
     pub significand: u64,
 }
 
+pub fn operand_of(x: Number) -> Operand
+    requires { ⌜ isWorking x ≡ true ⌝ }
+    ensures { λ r. ⌜ Equal (value x) (operandValue r) × IsOperand r ⌝ }
+{
+    match x {
+        Number::Zero => Operand {
+            negative: false,
+            exponent: 0,
+            significand: 0,
+        },
+        Number::Finite { negative, exponent, significand } => Operand {
+            negative,
+            exponent: biased(exponent),
+            significand,
+        },
+    }
+}

@@ -1,5 +1,76 @@
+// Add, subtract and multiply: any two numbers, any mode code and precision, and always an answer.
+// The operands are working numbers, the codes 0 to 6; anything else is refused.
+ghost use mathlib.Core.Path.{_≡_};
+ghost use Prim.Native.Nat.{_≤_};
+ghost use Rattle.numbers.specs.Answer.{outcome, precisionOf, rounded, operationOf, sumOf, differenceOf, productOf, exactOf};
+ghost use Rattle.numbers.specs.Fraction.{product as exactProduct};
+ghost use Rattle.numbers.specs.Words.{operandValue, IsOperand};
+use super::answer::Answer;
+use super::number::{Number, is_working, negated};
+use super::operand::{Operand, operand_of};
+use super::rounding::{Task, round, task_of};
+use super::sum::sum;
+use super::words;
+
+// a + b.
+pub fn add(a: Number, b: Number, code: u32, precision: u32) -> Answer
+    ensures { λ r. ⌜ outcome r ≡ sumOf a b code precision ⌝ }
+{
+    operate(Operation::Sum, a, b, code, precision)
+}
+
+// a − b.
+pub fn subtract(a: Number, b: Number, code: u32, precision: u32) -> Answer
+    ensures { λ r. ⌜ outcome r ≡ differenceOf a b code precision ⌝ }
+{
+    operate(Operation::Difference, a, b, code, precision)
+}
+
+// a × b.
+pub fn multiply(a: Number, b: Number, code: u32, precision: u32) -> Answer
+    ensures { λ r. ⌜ outcome r ≡ productOf a b code precision ⌝ }
+{
+    operate(Operation::Product, a, b, code, precision)
+}
+
 enum Operation {
     Sum,
     Difference,
     Product,
+}
+
+// The refusals in the order of document 01's table, and then the operation.
+fn operate(operation: Operation, a: Number, b: Number, code: u32, precision: u32) -> Answer
+    ensures { λ r. ⌜ outcome r ≡ operationOf (exactOf operation) a b code precision ⌝ }
+{
+    if 6 < code {
+        return Answer::UnknownMode;
+    }
+    if precision < 1 {
+        return Answer::BadPrecision;
+    }
+    if 64 < precision {
+        return Answer::BadPrecision;
+    }
+    if !is_working(a) {
+        return Answer::FirstUnfit;
+    }
+    if !is_working(b) {
+        return Answer::SecondUnfit;
+    }
+    let task = task_of(code, precision);
+    match operation {
+        Operation::Sum => sum(operand_of(a), operand_of(b), task),
+        Operation::Difference => sum(operand_of(a), operand_of(negated(b)), task),
+        Operation::Product => product(operand_of(a), operand_of(b), task),
+    }
+}
+
+// a × b, rounded by the task: the significands' product is exact in two words.
+fn product(a: Operand, b: Operand, task: Task) -> Answer
+    requires { ⌜ IsOperand a × IsOperand b × (1 ≤ precisionOf task) × (precisionOf task ≤ 64) ⌝ }
+    ensures { λ r. ⌜ outcome r ≡ rounded task (exactProduct (operandValue a) (operandValue b)) ⌝ }
+{
+    let negative = a.negative != b.negative;
+    round(negative, a.exponent + b.exponent, words::product(a.significand, b.significand), task)
 }

@@ -70,3 +70,32 @@ fn subtracted(large: Operand, small: Operand, task: Task) -> Answer
     let magnitude = remainder(less, borrow(cell.rest));
     round(large.negative, large.exponent + 65_535, sticky(magnitude, cell.rest), task)
 }
+
+// The sum of a larger and a smaller operand.
+fn aligned(large: Operand, small: Operand, task: Task) -> Answer
+    requires { ⌜ IsAligned large small × (1 ≤ precisionOf task) × (precisionOf task ≤ 64) ⌝ }
+    ensures { λ r. ⌜ outcome r ≡ rounded task (exactSum (operandValue large) (operandValue small)) ⌝ }
+{
+    if large.negative == small.negative {
+        added(large, small, task)
+    } else {
+        subtracted(large, small, task)
+    }
+}
+
+// a + b, rounded by the task.
+pub fn sum(a: Operand, b: Operand, task: Task) -> Answer
+    requires { ⌜ IsOperand a × IsOperand b × (1 ≤ precisionOf task) × (precisionOf task ≤ 64) ⌝ }
+    ensures { λ r. ⌜ outcome r ≡ rounded task (exactSum (operandValue a) (operandValue b)) ⌝ }
+{
+    if a.exponent < b.exponent {
+        return aligned(b, a, task);
+    }
+    if b.exponent < a.exponent {
+        return aligned(a, b, task);
+    }
+    if a.significand < b.significand {
+        return aligned(b, a, task);
+    }
+    aligned(a, b, task)
+}

@@ -12,7 +12,7 @@ use lib.Pow.{pow-add, pow-pos, pow-mono}
 use Rattle.numbers.specs.Fraction.{Fraction, IsFraction, Equal, signed, sum}
 use Rattle.numbers.specs.Answer.{precisionOf, rounded}
 use Rattle.numbers.specs.Grid.{InCell, digit}
-use Rattle.numbers.specs.Words.{lastBit, scaledValue, oddOf, operandValue, IsAligned}
+use Rattle.numbers.specs.Words.{lastBit, scaledValue, oddOf, operandValue, IsOperand, IsAligned}
 use Rattle.numbers.specs.declared.operand.Operand.{Operand}
 use Rattle.numbers.specs.declared.rounding.Task.{Task}
 use Rattle.numbers.proofs.Laws.Fractions.{fraction, same-sum, other-sum, sum-fraction}
@@ -117,3 +117,32 @@ module _ (large small : Operand) (h : IsAligned large small) (task : Task) (n0 :
       ∙ rw sign
       (sym (value-alone task (sum (fraction (signed s A) (2 ^ lastBit)) (fraction (signed (not s) B) (2 ^ lastBit))) (fraction (signed s (A - B)) (2 ^ lastBit))
       (sum-fraction (fraction (signed s A) (2 ^ lastBit)) (fraction (signed (not s) B) (2 ^ lastBit)) (pow-pos lastBit) (pow-pos lastBit)) (pow-pos lastBit) n0 (other-sum s A B (2 ^ lastBit) (rw on-grid less))))
+
+-- ---- which operand is the larger
+
+module _ (large small : Operand) (l : IsOperand large) (s : IsOperand small) where
+  pub by-exponent : small .exponent < large .exponent → IsAligned large small
+  by-exponent h =
+      let top : 2 ^ 63 ≤ large .significand = l .normal (omega arith) in
+      let twice : 2 * large .significand ≤ large .significand * 2 ^ (large .exponent - small .exponent) = omega (arith, mul-le-mul-left (large .significand) (pow-mono {i = 1} (one-below h))) in
+      record {
+        biased = l .biased;
+        later = le-of-lt h;
+        large-word = l .word;
+        small-word = s .word;
+        larger = let w = s .word in omega arith;
+        normal = λ (z : 0 < large .significand). top;
+      }
+    where
+      one-below : {a b : ℕ} → a < b → 1 ≤ b - a
+      one-below k = omega arith
+
+  pub by-significand : small .exponent ≤ large .exponent → small .significand ≤ large .significand → IsAligned large small
+  by-significand h k = record {
+    biased = l .biased;
+    later = h;
+    large-word = l .word;
+    small-word = s .word;
+    larger = omega (arith, mul-le-mul-left (large .significand) (pow-pos (large .exponent - small .exponent)));
+    normal = λ (z : 0 < large .significand). l .normal (omega arith);
+  }

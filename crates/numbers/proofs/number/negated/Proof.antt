@@ -1,0 +1,40 @@
+-- `numbers::number::negated` meets its contract, by the number's case.
+use mathlib.Core.Path.{_≡_, sym, ap, _∙_}
+use mathlib.Core.Bool.{Bool, not}
+use Prim.Native.Nat.{ℕ}
+use borrow.Author.Needs.{needs}
+use lib.IntN.{ℤ}
+use mir.Facts.{toZ-ofZ}
+use mir.Syntax.{w32}
+use mir.Val.{SFits, toZ, ofZ}
+use Rattle.numbers.specs.Number.{opposite}
+use Rattle.numbers.specs.declared.number.Number.{Number}
+use Rattle.numbers.specs.declared.number.Number.the-variants.{Zero, Finite}
+use Rattle.numbers.proofs.number.negated.Statement.{statement}
+use Rattle.numbers.proofs.number.negated.Tie as tie
+
+of-zero : (x : Number) → x ≡ Zero → Zero ≡ opposite x
+unfolding opposite
+of-zero x e = rw e
+
+of-finite : (x : Number) (s : Bool) (e : ℤ) (S : ℕ) → x ≡ Finite s e S → SFits w32 e → Finite (not s) (toZ w32 (ofZ w32 e)) S ≡ opposite x
+unfolding opposite
+of-finite x s e S k fits = rw (k, toZ-ofZ fits)
+
+enum-told : tie.Need-enum-told
+enum-told c = search needs
+
+enum-known-x : tie.Need-enum-known-x
+enum-known-x c = search needs
+
+returns : tie.Need-returns
+returns c = of-zero _ (c .enum-told .given .1)
+
+returns-2 : tie.Need-returns-2
+returns-2 c =
+    let v = c .before .x .given in
+    let fits : SFits w32 (v .0 .1 .0) = search needs in
+    of-finite _ _ _ _ (v .1) fits
+
+pub negated-spec : {M : Type 1} → statement M
+negated-spec = tie.close (tie.spec enum-told enum-known-x returns returns-2)

@@ -19,3 +19,5 @@ pub mod Sum
 pub mod Aligned
 pub mod Operands
 pub mod Top
+pub mod Refusals
+pub mod Opposite

@@ -1,9 +1,11 @@
 // Add, subtract and multiply: any two numbers, any mode code and precision, and always an answer.
 // The operands are working numbers, the codes 0 to 6; anything else is refused.
 ghost use mathlib.Core.Path.{_≡_};
+ghost use mathlib.Core.Bool.{true};
 ghost use Prim.Native.Nat.{_≤_};
 ghost use Rattle.numbers.specs.Answer.{outcome, precisionOf, rounded, operationOf, sumOf, differenceOf, productOf, exactOf};
-ghost use Rattle.numbers.specs.Fraction.{product as exactProduct};
+ghost use Rattle.numbers.specs.Fraction.{value, product as exactProduct};
+ghost use Rattle.numbers.specs.Number.{isWorking};
 ghost use Rattle.numbers.specs.Words.{operandValue, IsOperand};
 use super::answer::Answer;
 use super::number::{Number, is_working, negated};
@@ -58,11 +60,19 @@ fn operate(operation: Operation, a: Number, b: Number, code: u32, precision: u32
     if !is_working(b) {
         return Answer::SecondUnfit;
     }
-    let task = task_of(code, precision);
+    exactly(operation, a, b, task_of(code, precision))
+}
+
+// The operation on two working numbers, rounded once by the task.
+fn exactly(operation: Operation, a: Number, b: Number, task: Task) -> Answer
+    requires { ⌜ (isWorking a ≡ true) × (isWorking b ≡ true) × (1 ≤ precisionOf task) × (precisionOf task ≤ 64) ⌝ }
+    ensures { λ r. ⌜ outcome r ≡ rounded task (exactOf operation (value a) (value b)) ⌝ }
+{
+    let x = operand_of(a);
     match operation {
-        Operation::Sum => sum(operand_of(a), operand_of(b), task),
-        Operation::Difference => sum(operand_of(a), operand_of(negated(b)), task),
-        Operation::Product => product(operand_of(a), operand_of(b), task),
+        Operation::Sum => sum(x, operand_of(b), task),
+        Operation::Difference => sum(x, operand_of(negated(b)), task),
+        Operation::Product => product(x, operand_of(b), task),
     }
 }
 

@@ -1,110 +1,72 @@
+-- `numbers::operation::operate` meets its contract: each refusal has the tests before it behind it, and with no refusal the task is carried out.
+use mathlib.Core.Path.{_≡_, sym, ap, _∙_}
+use mathlib.Core.Bool.{Bool, true, false}
+use Prim.Native.Nat.{ℕ, _≤_, _<_}
+use native.Mathlib.Omega.{arith}
 use borrow.Author.Needs.{needs}
+use borrow.Author.Tests.{not-true, not-false}
+use Rattle.numbers.specs.Answer.{outcome, rounded, exactOf, taskOf, precisionOf}
+use Rattle.numbers.specs.Fraction.{value}
+use Rattle.numbers.specs.declared.rounding.Task.{Task}
+use Rattle.numbers.proofs.Laws.Refusals.{task-precision, unknown-mode, precision-zero, precision-above, first-unfit, second-unfit, none-refused}
 use Rattle.numbers.proofs.operation.operate.Statement.{statement}
 use Rattle.numbers.proofs.operation.operate.Tie as tie
-use Rattle.numbers.proofs.operation.operate.Reads as reads
-use Rattle.numbers.proofs.operation.operate.Lts as lts
-use Rattle.numbers.proofs.number.is_working.Reads as is-working-reads
-use Rattle.numbers.proofs.number.negated.Reads as negated-reads
-use Rattle.numbers.proofs.operand.operand_of.Reads as operand-of-reads
-use Rattle.numbers.proofs.operation.product.Reads as product-reads
-use Rattle.numbers.proofs.rounding.task_of.Reads as task-of-reads
-use Rattle.numbers.proofs.sum.sum.Reads as sum-reads
 
--- src/operation.rt:47:9
+-- the precision of the task that was read
+precision : (task : Task) (code n : ℕ) → task ≡ taskOf code n → 1 ≤ n → n ≤ 64 → (1 ≤ precisionOf task) × (precisionOf task ≤ 64)
+precision task code n e n0 n1 = rw (e, task-precision code n) (n0, n1)
+
 returns : tie.Need-returns
-returns c = ?
+unfolding outcome
+returns c = unknown-mode _ _ _ _ _ (c .if1 .taken)
 
--- src/operation.rt:50:9
 returns-2 : tie.Need-returns-2
-returns-2 c = ?
+unfolding outcome
+returns-2 c = precision-zero _ _ _ _ _ (c .before .if1 .left) (c .if2 .taken)
 
--- src/operation.rt:53:9
 returns-3 : tie.Need-returns-3
-returns-3 c = ?
+unfolding outcome
+returns-3 c = precision-above _ _ _ _ _ (c .before .before .if1 .left) (c .before .if2 .left) (c .if3 .taken)
 
--- src/operation.rt:55:9
 is-working-requires : tie.Need-is-working-requires
 is-working-requires c κs = search needs
 
--- src/operation.rt:56:9
 returns-4 : tie.Need-returns-4
-returns-4 c = ?
+unfolding outcome
+returns-4 c =
+    let e = c .before .before in
+    first-unfit _ _ _ _ _ (e .before .before .if1 .left) (e .before .if2 .left) (e .if3 .left) (sym (c .before .is-working .ensures) ∙ not-true _ (c .if4 .taken))
 
--- src/operation.rt:58:9
 is-working-requires-2 : tie.Need-is-working-requires-2
 is-working-requires-2 c κs = search needs
 
--- src/operation.rt:59:9
 returns-5 : tie.Need-returns-5
-returns-5 c = ?
+unfolding outcome
+returns-5 c =
+    let f = c .before .before in
+    let e = f .before .before in
+    second-unfit _ _ _ _ _ (e .before .before .if1 .left) (e .before .if2 .left) (e .if3 .left) (sym (f .before .is-working .ensures) ∙ not-false _ (f .if4 .left)) (sym (c .before .is-working2 .ensures) ∙ not-true _ (c .if5 .taken))
 
--- src/operation.rt:61:9
 task-of-requires : tie.Need-task-of-requires
 task-of-requires c κs = search needs
 
--- src/operation.rt:63:31
-enum-told : tie.Need-enum-told
-enum-told c = search needs
+exactly-requires : tie.Need-exactly-requires
+exactly-requires c κs =
+    let g = c .before in
+    let f = g .before .before in
+    let e = f .before .before in
+    let n = precision _ _ _ (c .task-of .ensures) (e .before .if2 .left) (e .if3 .left) in
+    (sym (f .before .is-working .ensures) ∙ not-false _ (f .if4 .left), sym (g .before .is-working2 .ensures) ∙ not-false _ (g .if5 .left), n .0, n .1)
 
--- src/operation.rt:63:31
-operand-of-requires : tie.Need-operand-of-requires
-operand-of-requires c κs = ?
-
--- src/operation.rt:63:46
-operand-of-requires-2 : tie.Need-operand-of-requires-2
-operand-of-requires-2 c κs = ?
-
--- src/operation.rt:63:27
-sum-requires : tie.Need-sum-requires
-sum-requires c κs = ?
-
--- src/operation.rt:64:38
-enum-told-2 : tie.Need-enum-told-2
-enum-told-2 c = search needs
-
--- src/operation.rt:64:38
-operand-of-requires-3 : tie.Need-operand-of-requires-3
-operand-of-requires-3 c κs = ?
-
--- src/operation.rt:64:64
-negated-requires : tie.Need-negated-requires
-negated-requires c κs = search needs
-
--- src/operation.rt:64:53
-operand-of-requires-4 : tie.Need-operand-of-requires-4
-operand-of-requires-4 c κs = ?
-
--- src/operation.rt:64:34
-sum-requires-2 : tie.Need-sum-requires-2
-sum-requires-2 c κs = ?
-
--- src/operation.rt:65:39
-enum-told-3 : tie.Need-enum-told-3
-enum-told-3 c = search needs
-
--- src/operation.rt:65:39
-operand-of-requires-5 : tie.Need-operand-of-requires-5
-operand-of-requires-5 c κs = ?
-
--- src/operation.rt:65:54
-operand-of-requires-6 : tie.Need-operand-of-requires-6
-operand-of-requires-6 c κs = ?
-
--- src/operation.rt:65:31
-product-requires : tie.Need-product-requires
-product-requires c κs = ?
-
--- src/operation.rt:43:1
 returns-6 : tie.Need-returns-6
-returns-6 c = ?
-
--- src/operation.rt:43:1
-returns-7 : tie.Need-returns-7
-returns-7 c = ?
-
--- src/operation.rt:43:1
-returns-8 : tie.Need-returns-8
-returns-8 c = ?
+returns-6 c =
+    let t = c .before in
+    let g = t .before in
+    let f = g .before .before in
+    let e = f .before .before in
+    c .exactly .ensures
+    ∙ ap (λ (task : Task). rounded task (exactOf (e .before .before .before .args .operation) (value (e .before .before .before .args .a)) (value (e .before .before .before .args .b)))) (t .task-of .ensures)
+    ∙ none-refused _ _ _ _ _ (e .before .before .if1 .left) (e .before .if2 .left) (e .if3 .left) (sym (f .before .is-working .ensures) ∙ not-false _ (f .if4 .left)) (sym (g .before .is-working2 .ensures) ∙ not-false _ (g .if5 .left))
 
 pub operate-spec : {M : Type 1} → statement M
 operate-spec =
@@ -118,19 +80,5 @@ operate-spec =
     is-working-requires-2
     returns-5
     task-of-requires
-    enum-told
-    operand-of-requires
-    operand-of-requires-2
-    sum-requires
-    enum-told-2
-    operand-of-requires-3
-    negated-requires
-    operand-of-requires-4
-    sum-requires-2
-    enum-told-3
-    operand-of-requires-5
-    operand-of-requires-6
-    product-requires
-    returns-6
-    returns-7
-    returns-8)
+    exactly-requires
+    returns-6)

@@ -37,13 +37,13 @@ results =
 -- P6: 3/2 near 1 is 2. P7: 5/4 near 2 is 1. P8: 7/4 near 2 is 2. 2^65536 × 2 gives 7. 1 + 2^−64 claimed exact 64 gives 8.
 -- 11/8 near 2 is 3/2, which near 1 is 2 (P6); rounded once, near 1, it is 1.
 pub known : results ≡ (
-  given (Finite false (pos 1) 0x8000000000000000)
-  ∷ given (Finite false (pos 0) 0x8000000000000000)
-  ∷ given (Finite false (pos 1) 0x8000000000000000)
-  ∷ refused 7
-  ∷ refused 8
-  ∷ given (Finite false (pos 0) 0xC000000000000000)
-  ∷ given (Finite false (pos 0) 0x8000000000000000)
-  ∷ [])
+    given (Finite false (pos 1) 0x8000000000000000)
+    ∷ given (Finite false (pos 0) 0x8000000000000000)
+    ∷ given (Finite false (pos 1) 0x8000000000000000)
+    ∷ refused 7
+    ∷ refused 8
+    ∷ given (Finite false (pos 0) 0xC000000000000000)
+    ∷ given (Finite false (pos 0) 0x8000000000000000)
+    ∷ [])
 unfolding results sumOf productOf operationOf isPrecision isWorking isFit isBetween isSignificand isWorkingExponent taskOf rounded checked claimed round roundedAt hasBits isNegative placed wholeOf goesUp scaledTop scaledBottom exponentOf settled size value signed sum product one threeHalves elevenEighths
 known = refl

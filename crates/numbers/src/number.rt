@@ -18,8 +18,11 @@ pub enum Number {
 
 // The ends of the working and of the admissible exponents.
 pub const LOWEST_WORKING: i32 = -65_535;
+
 pub const HIGHEST_WORKING: i32 = 65_536;
+
 pub const LOWEST_ADMISSIBLE: i32 = -16_446;
+
 pub const HIGHEST_ADMISSIBLE: i32 = 16_384;
 
 // The lowest significand: its top bit alone.
@@ -43,7 +46,12 @@ pub fn is_admissible(x: Number) -> bool
 fn is_fit(x: Number, lowest: i32, highest: i32) -> bool
     ensures { λ r. ⌜ r ≡ isFit lowest highest x ⌝ }
 {
-    let Number::Finite { negative: _, exponent, significand } = x else {
+    let Number::Finite {
+        negative: _,
+        exponent,
+        significand,
+    } = x
+    else {
         return true;
     };
     if lowest <= exponent {
@@ -60,7 +68,11 @@ pub fn negated(x: Number) -> Number
 {
     match x {
         Number::Zero => Number::Zero,
-        Number::Finite { negative, exponent, significand } => Number::Finite {
+        Number::Finite {
+            negative,
+            exponent,
+            significand,
+        } => Number::Finite {
             negative: !negative,
             exponent,
             significand,
@@ -69,7 +81,7 @@ pub fn negated(x: Number) -> Number
 }
 
 // A working exponent with the bias added.
-pub fn biased(exponent: i32) -> u32
+pub(crate) fn biased(exponent: i32) -> u32
     requires { ⌜ isWorkingExponent exponent ≡ true ⌝ }
     ensures { λ r. ⌜ (exponent ≡ minus r 65535) × (r ≤ 131071) ⌝ }
 {
@@ -77,7 +89,7 @@ pub fn biased(exponent: i32) -> u32
 }
 
 // The exponent that a biased one stands for.
-pub fn unbiased(b: u32) -> i32
+pub(crate) fn unbiased(b: u32) -> i32
     requires { ⌜ b ≤ 131071 ⌝ }
     ensures { λ r. ⌜ r ≡ minus b 65535 ⌝ }
 {

@@ -4,16 +4,17 @@ ghost use mathlib.Core.Bool.{true};
 ghost use Rattle.numbers.specs.Fraction.{Equal, value};
 ghost use Rattle.numbers.specs.Number.{isWorking};
 ghost use Rattle.numbers.specs.Words.{operandValue, IsOperand};
-use super::number::{Number, biased};
+use super::number::Number;
+use super::number::biased;
 
 // sign × significand × 2^(exponent − 65,598).
-pub struct Operand {
+pub(crate) struct Operand {
     pub negative: bool,
     pub exponent: u32,
     pub significand: u64,
 }
 
-pub fn operand_of(x: Number) -> Operand
+pub(crate) fn operand_of(x: Number) -> Operand
     requires { ⌜ isWorking x ≡ true ⌝ }
     ensures { λ r. ⌜ Equal (value x) (operandValue r) × IsOperand r ⌝ }
 {
@@ -23,7 +24,11 @@ pub fn operand_of(x: Number) -> Operand
             exponent: 0,
             significand: 0,
         },
-        Number::Finite { negative, exponent, significand } => Operand {
+        Number::Finite {
+            negative,
+            exponent,
+            significand,
+        } => Operand {
             negative,
             exponent: biased(exponent),
             significand,

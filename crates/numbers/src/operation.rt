@@ -8,9 +8,14 @@ ghost use Rattle.numbers.specs.Fraction.{value, product as exactProduct}
 ghost use Rattle.numbers.specs.Number.{isWorking};
 ghost use Rattle.numbers.specs.Words.{operandValue, IsOperand};
 use super::answer::Answer;
-use super::number::{Number, is_working, negated};
-use super::operand::{Operand, operand_of};
-use super::rounding::{Task, round, task_of};
+use super::number::Number;
+use super::number::is_working;
+use super::number::negated;
+use super::operand::Operand;
+use super::operand::operand_of;
+use super::rounding::Task;
+use super::rounding::round;
+use super::rounding::task_of;
 use super::sum::sum;
 use super::words;
 
@@ -82,5 +87,10 @@ fn product(a: Operand, b: Operand, task: Task) -> Answer
     ensures { λ r. ⌜ outcome r ≡ rounded task (exactProduct (operandValue a) (operandValue b)) ⌝ }
 {
     let negative = a.negative != b.negative;
-    round(negative, a.exponent + b.exponent, words::product(a.significand, b.significand), task)
+    round(
+        negative,
+        a.exponent + b.exponent,
+        words::product(a.significand, b.significand),
+        task,
+    )
 }

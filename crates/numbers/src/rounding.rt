@@ -10,8 +10,13 @@ ghost use Rattle.numbers.specs.Rounding.{goesUp};
 ghost use Rattle.numbers.specs.Words.{wide, lastBit, scaledValue, roundedTop, claimedTop};
 ghost use Rattle.numbers.specs.Grid.{digit};
 use super::answer::Answer;
-use super::number::{Number, TOP_BIT, unbiased};
-use super::words::{Words, leading_zeros, shift_left, shift_right};
+use super::number::Number;
+use super::number::TOP_BIT;
+use super::number::unbiased;
+use super::words::Words;
+use super::words::leading_zeros;
+use super::words::shift_left;
+use super::words::shift_right;
 
 pub enum Mode {
     Trunc,
@@ -40,17 +45,35 @@ pub enum Task {
 }
 
 // The task that a code from 0 to 6 and a precision name.
-pub fn task_of(code: u32, precision: u32) -> Task
+pub(crate) fn task_of(code: u32, precision: u32) -> Task
     requires { ⌜ code ≤ 6 ⌝ }
     ensures { λ r. ⌜ r ≡ taskOf code precision ⌝ }
 {
     match code {
-        0 => Task::Round(Rounding { mode: Mode::Trunc, precision }),
-        1 => Task::Round(Rounding { mode: Mode::Away, precision }),
-        2 => Task::Round(Rounding { mode: Mode::Near, precision }),
-        3 => Task::Round(Rounding { mode: Mode::Sticky, precision }),
-        4 => Task::Round(Rounding { mode: Mode::Up, precision }),
-        5 => Task::Round(Rounding { mode: Mode::Down, precision }),
+        0 => Task::Round(Rounding {
+            mode: Mode::Trunc,
+            precision,
+        }),
+        1 => Task::Round(Rounding {
+            mode: Mode::Away,
+            precision,
+        }),
+        2 => Task::Round(Rounding {
+            mode: Mode::Near,
+            precision,
+        }),
+        3 => Task::Round(Rounding {
+            mode: Mode::Sticky,
+            precision,
+        }),
+        4 => Task::Round(Rounding {
+            mode: Mode::Up,
+            precision,
+        }),
+        5 => Task::Round(Rounding {
+            mode: Mode::Down,
+            precision,
+        }),
         _ => Task::Exact(Claim { precision }),
     }
 }
@@ -153,7 +176,7 @@ fn claim_top(negative: bool, exponent: u32, zeros: u32, top: Words, claim: Claim
 }
 
 // A two-word magnitude rounded once, or claimed exact, by its task.
-pub fn round(negative: bool, exponent: u32, magnitude: Words, task: Task) -> Answer
+pub(crate) fn round(negative: bool, exponent: u32, magnitude: Words, task: Task) -> Answer
     requires { ⌜ (exponent ≤ 262142) × (1 ≤ precisionOf task) × (precisionOf task ≤ 64) ⌝ }
     ensures { λ r. ⌜ outcome r ≡ rounded task (scaledValue negative (wide (magnitude .high) (magnitude .low)) exponent) ⌝ }
 {

@@ -9,8 +9,12 @@ ghost use Rattle.numbers.specs.Grid.{digit};
 ghost use Rattle.numbers.specs.Words.{wide, oddOf, operandValue, IsOperand, IsAligned};
 use super::answer::Answer;
 use super::operand::Operand;
-use super::rounding::{Task, round};
-use super::words::{Words, remainder, shift_right, total};
+use super::rounding::Task;
+use super::rounding::round;
+use super::words::Words;
+use super::words::remainder;
+use super::words::shift_right;
+use super::words::total;
 
 // significand × 2^63.
 fn raised(significand: u64) -> Words
@@ -54,8 +58,19 @@ fn added(large: Operand, small: Operand, task: Task) -> Answer
 {
     let top = raised(large.significand);
     let cell = shift_right(raised(small.significand), large.exponent - small.exponent);
-    let magnitude = total(top, Words { high: cell.high, low: cell.low });
-    round(large.negative, large.exponent + 65_535, sticky(magnitude, cell.rest), task)
+    let magnitude = total(
+        top,
+        Words {
+            high: cell.high,
+            low: cell.low,
+        },
+    );
+    round(
+        large.negative,
+        large.exponent + 65_535,
+        sticky(magnitude, cell.rest),
+        task,
+    )
 }
 
 // The sum of a larger and a smaller operand of two signs. Where there is a rest, the exact difference
@@ -66,9 +81,20 @@ fn subtracted(large: Operand, small: Operand, task: Task) -> Answer
 {
     let top = raised(large.significand);
     let cell = shift_right(raised(small.significand), large.exponent - small.exponent);
-    let less = remainder(top, Words { high: cell.high, low: cell.low });
+    let less = remainder(
+        top,
+        Words {
+            high: cell.high,
+            low: cell.low,
+        },
+    );
     let magnitude = remainder(less, borrow(cell.rest));
-    round(large.negative, large.exponent + 65_535, sticky(magnitude, cell.rest), task)
+    round(
+        large.negative,
+        large.exponent + 65_535,
+        sticky(magnitude, cell.rest),
+        task,
+    )
 }
 
 // The sum of a larger and a smaller operand.
@@ -84,7 +110,7 @@ fn aligned(large: Operand, small: Operand, task: Task) -> Answer
 }
 
 // a + b, rounded by the task.
-pub fn sum(a: Operand, b: Operand, task: Task) -> Answer
+pub(crate) fn sum(a: Operand, b: Operand, task: Task) -> Answer
     requires { ⌜ IsOperand a × IsOperand b × (1 ≤ precisionOf task) × (precisionOf task ≤ 64) ⌝ }
     ensures { λ r. ⌜ outcome r ≡ rounded task (exactSum (operandValue a) (operandValue b)) ⌝ }
 {

@@ -4,13 +4,13 @@ ghost use Prim.Native.Nat.{_+_, _*_, _/_, _%_, _^_, _≤_, _<_};
 ghost use lib.Dec.{ltb};
 ghost use Rattle.numbers.specs.Words.{wide};
 
-pub struct Words {
+pub(crate) struct Words {
     pub high: u64,
     pub low: u64,
 }
 
 // A magnitude, and whether something nonzero lies below its last bit.
-pub struct Cell {
+pub(crate) struct Cell {
     pub high: u64,
     pub low: u64,
     pub rest: bool,
@@ -18,7 +18,7 @@ pub struct Cell {
 
 // a × b. Each factor is cut into halves of 32 bits, and the four products are added column by
 // column with their carries.
-pub fn product(a: u64, b: u64) -> Words
+pub(crate) fn product(a: u64, b: u64) -> Words
     ensures { λ r. ⌜ wide (r .high) (r .low) ≡ a * b ⌝ }
 {
     let a0 = a % 0x1_0000_0000;
@@ -35,7 +35,7 @@ pub fn product(a: u64, b: u64) -> Words
 }
 
 // a + b, where the sum has 128 bits.
-pub fn total(a: Words, b: Words) -> Words
+pub(crate) fn total(a: Words, b: Words) -> Words
     requires { ⌜ wide (a .high) (a .low) + wide (b .high) (b .low) < 2 ^ 128 ⌝ }
     ensures { λ r. ⌜ wide (r .high) (r .low) ≡ wide (a .high) (a .low) + wide (b .high) (b .low) ⌝ }
 {
@@ -51,7 +51,7 @@ pub fn total(a: Words, b: Words) -> Words
 }
 
 // a − b, where b is no larger.
-pub fn remainder(a: Words, b: Words) -> Words
+pub(crate) fn remainder(a: Words, b: Words) -> Words
     requires { ⌜ wide (b .high) (b .low) ≤ wide (a .high) (a .low) ⌝ }
     ensures { λ r. ⌜ wide (r .high) (r .low) + wide (b .high) (b .low) ≡ wide (a .high) (a .low) ⌝ }
 {
@@ -67,7 +67,7 @@ pub fn remainder(a: Words, b: Words) -> Words
 }
 
 // How far a nonzero magnitude is shifted left to bring its top bit to bit 127.
-pub fn leading_zeros(a: Words) -> u32
+pub(crate) fn leading_zeros(a: Words) -> u32
     requires { ⌜ 0 < wide (a .high) (a .low) ⌝ }
     ensures { λ r. ⌜ (r ≤ 127) × (2 ^ 127 ≤ wide (a .high) (a .low) * 2 ^ r) × (wide (a .high) (a .low) * 2 ^ r < 2 ^ 128) ⌝ }
 {
@@ -79,7 +79,7 @@ pub fn leading_zeros(a: Words) -> u32
 }
 
 // a × 2^by, where no bit is lost.
-pub fn shift_left(a: Words, by: u32) -> Words
+pub(crate) fn shift_left(a: Words, by: u32) -> Words
     requires { ⌜ (by ≤ 127) × (wide (a .high) (a .low) * 2 ^ by < 2 ^ 128) ⌝ }
     ensures { λ r. ⌜ wide (r .high) (r .low) ≡ wide (a .high) (a .low) * 2 ^ by ⌝ }
 {
@@ -127,7 +127,7 @@ fn cut(a: u64, by: u32) -> Part
 }
 
 // a / 2^by as a whole number, and whether a bit that was set is dropped.
-pub fn shift_right(a: Words, by: u32) -> Cell
+pub(crate) fn shift_right(a: Words, by: u32) -> Cell
     ensures { λ r. ⌜ (wide (r .high) (r .low) ≡ wide (a .high) (a .low) / 2 ^ by) × (r .rest ≡ ltb 0 (wide (a .high) (a .low) % 2 ^ by)) ⌝ }
 {
     if by == 0 {

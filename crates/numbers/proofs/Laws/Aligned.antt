@@ -41,6 +41,7 @@ far b y d c = go (decLe 64 d)
   where
     parts : d ≤ 63 → b * 2 ^ 63 ≡ b * 2 ^ (63 - d) * 2 ^ d
     parts l = ap (λ (n : ℕ). b * n) (ap (λ (n : ℕ). 2 ^ n) (let e : 63 ≡ 63 - d + d = omega arith in e) ∙ pow-add 2 (63 - d) d) ∙ sym (mul-assoc b (2 ^ (63 - d)) (2 ^ d))
+
     go : Dec (64 ≤ d) → 64 ≤ d
     go (yes l) = l
     go (no n) = absurd (no-rest (b * 2 ^ (63 - d)) y (2 ^ d) (rw (parts (let l = lt-of-not-le n in omega arith)) at c))

@@ -68,23 +68,26 @@ cell-law task x i o F true x0 n0 fine h =
 -- no multiple of u or v tells X and Y apart: then they have one cell
 one-cell : (rest : Bool) (X Y u v F : ℕ) → ((m : ℕ) → (m * u ≤ X) ↔ (m * v ≤ Y)) → ((m : ℕ) → (X ≤ m * u) ↔ (Y ≤ m * v)) → InCell rest X F u → InCell rest Y F v
 one-cell false X Y u v F low high h = le-antisymm (high F .0 (le-of-eq h)) (low F .0 (le-of-eq (sym h)))
-one-cell true X Y u v F low high h =
-    (lt-of-not-le (λ (k : Y ≤ F * v). not-le-of-lt (h .0) (high F .1 k)),
-    (let l : Y < (F + 1) * v = lt-of-not-le (λ (k : (F + 1) * v ≤ Y). not-le-of-lt (h .1) (let z : (F + 1) * u ≤ X = low (F + 1) .1 k in omega arith)) in omega arith))
+one-cell true X Y u v F low high h = (
+  lt-of-not-le (λ (k : Y ≤ F * v). not-le-of-lt (h .0) (high F .1 k)),
+  (let l : Y < (F + 1) * v = lt-of-not-le (λ (k : (F + 1) * v ≤ Y). not-le-of-lt (h .1) (let z : (F + 1) * u ≤ X = low (F + 1) .1 k in omega arith)) in omega arith),
+)
 
 -- what it means that no multiple tells two fractions of one sign apart, in magnitudes
 module _ (s : Bool) (a b c d i o : ℕ) (alike : Alike i o (record { numerator = signed s a; denominator = c }) (record { numerator = signed s b; denominator = d })) where
   up-to : (m : ℕ) → Ordered s (m * 2 ^ i * c) (a * 2 ^ o) ↔ Ordered s (m * 2 ^ i * d) (b * 2 ^ o)
   unfolding Alike AtMost multiple
-  up-to m =
-      (λ h. signed-ordered s (m * 2 ^ i * d) (b * 2 ^ o) (simp signed-times at (alike (signed s m) .0 .0 (simp signed-times (signed-order s (m * 2 ^ i * c) (a * 2 ^ o) h)))),
-      λ h. signed-ordered s (m * 2 ^ i * c) (a * 2 ^ o) (simp signed-times at (alike (signed s m) .0 .1 (simp signed-times (signed-order s (m * 2 ^ i * d) (b * 2 ^ o) h)))))
+  up-to m = (
+    λ h. signed-ordered s (m * 2 ^ i * d) (b * 2 ^ o) (simp signed-times at (alike (signed s m) .0 .0 (simp signed-times (signed-order s (m * 2 ^ i * c) (a * 2 ^ o) h)))),
+    λ h. signed-ordered s (m * 2 ^ i * c) (a * 2 ^ o) (simp signed-times at (alike (signed s m) .0 .1 (simp signed-times (signed-order s (m * 2 ^ i * d) (b * 2 ^ o) h)))),
+  )
 
   down-to : (m : ℕ) → Ordered s (a * 2 ^ o) (m * 2 ^ i * c) ↔ Ordered s (b * 2 ^ o) (m * 2 ^ i * d)
   unfolding Alike AtMost multiple
-  down-to m =
-      (λ h. signed-ordered s (b * 2 ^ o) (m * 2 ^ i * d) (simp signed-times at (alike (signed s m) .1 .0 (simp signed-times (signed-order s (a * 2 ^ o) (m * 2 ^ i * c) h)))),
-      λ h. signed-ordered s (a * 2 ^ o) (m * 2 ^ i * c) (simp signed-times at (alike (signed s m) .1 .1 (simp signed-times (signed-order s (b * 2 ^ o) (m * 2 ^ i * d) h)))))
+  down-to m = (
+    λ h. signed-ordered s (b * 2 ^ o) (m * 2 ^ i * d) (simp signed-times at (alike (signed s m) .1 .0 (simp signed-times (signed-order s (a * 2 ^ o) (m * 2 ^ i * c) h)))),
+    λ h. signed-ordered s (a * 2 ^ o) (m * 2 ^ i * c) (simp signed-times at (alike (signed s m) .1 .1 (simp signed-times (signed-order s (b * 2 ^ o) (m * 2 ^ i * d) h)))),
+  )
 
 -- two such fractions have one cell
 alike-cell : (s : Bool) (a b c d i o : ℕ) → Alike i o (record { numerator = signed s a; denominator = c }) (record { numerator = signed s b; denominator = d })
@@ -93,9 +96,11 @@ alike-cell s a b c d i o alike rest F = one-cell rest (a * 2 ^ o) (b * 2 ^ o) (c
   where
     turned : (m u : ℕ) → m * (u * 2 ^ i) ≡ m * 2 ^ i * u
     turned m u = omega arith
+
     low : (s : Bool) → Alike i o (record { numerator = signed s a; denominator = c }) (record { numerator = signed s b; denominator = d }) → (m : ℕ) → (m * (c * 2 ^ i) ≤ a * 2 ^ o) ↔ (m * (d * 2 ^ i) ≤ b * 2 ^ o)
     low false r m = rw (turned m c, turned m d) (up-to false a b c d i o r m)
     low true r m = rw (turned m c, turned m d) (down-to true a b c d i o r m)
+
     high : (s : Bool) → Alike i o (record { numerator = signed s a; denominator = c }) (record { numerator = signed s b; denominator = d }) → (m : ℕ) → (a * 2 ^ o ≤ m * (c * 2 ^ i)) ↔ (b * 2 ^ o ≤ m * (d * 2 ^ i))
     high false r m = rw (turned m c, turned m d) (down-to false a b c d i o r m)
     high true r m = rw (turned m c, turned m d) (up-to true a b c d i o r m)
@@ -134,9 +139,12 @@ alike-rounds task x y i o x0 y0 n0 fine alike =
   where
     u0 : 0 < x .denominator * 2 ^ i
     u0 = mul-le-mul x0 (pow-pos i)
+
     X0 : 0 < natAbs (x .numerator)
     X0 = lt-of-mul-lt-mul-right (2 ^ o) (lt-of-lt-of-le (omega (arith, mul-le-mul (pow-pos (precisionOf task)) u0)) fine)
+
     sign : isNegative (x .numerator) ≡ isNegative (y .numerator)
     sign = alike-sign (x .numerator) (y .numerator) (x .denominator) (y .denominator) i o X0 alike
+
     spelled : Alike i o (record { numerator = signed (isNegative (x .numerator)) (natAbs (x .numerator)); denominator = x .denominator }) (record { numerator = signed (isNegative (x .numerator)) (natAbs (y .numerator)); denominator = y .denominator })
     spelled = rw (signed-abs (x .numerator), sign, signed-abs (y .numerator)) alike

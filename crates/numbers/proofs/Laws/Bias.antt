@@ -67,9 +67,11 @@ working-range i o h = (low (decLe o (i + 65535)), high (decLe i (o + 65536)))
   where
     apart : isWorkingExponent (minus i o) ≡ false → ⊥
     apart k = let z : _≡_ {A = ℕ} 0 1 = cc in omega arith
+
     low : Dec (o ≤ i + 65535) → o ≤ i + 65535
     low (yes l) = l
     low (no n) = absurd (apart (too-low i o (lt-of-not-le n)))
+
     high : Dec (i ≤ o + 65536) → i ≤ o + 65536
     high (yes l) = l
     high (no n) = absurd (apart (too-high i o (lt-of-not-le n)))

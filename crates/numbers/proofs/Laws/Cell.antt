@@ -31,9 +31,10 @@ use Rattle.numbers.proofs.Laws.Whole.{cell-low, cell-high, whole-cell, 
 pub cell-ratio : (rest : Bool) (x F u y v c d : ℕ) → 0 < c → 0 < d → x * c ≡ y * d → u * c ≡ v * d → InCell rest x F u → InCell rest y F v
 cell-ratio false x F u y v c d c0 d0 e k h =
     eq-of-mul-eq-mul-right d d0 y (F * v) (omega (arith, ap (λ (n : ℕ). n * c) h, ap (λ (n : ℕ). F * n) k))
-cell-ratio true x F u y v c d c0 d0 e k h =
-    (lt-of-mul-lt-mul-right d (omega (arith, mul-lt-mul-of-pos-right {k = c} (h .0) c0, ap (λ (n : ℕ). F * n) k)),
-    lt-of-mul-lt-mul-right d (omega (arith, mul-lt-mul-of-pos-right {k = c} (h .1) c0, ap (λ (n : ℕ). F * n) k)))
+cell-ratio true x F u y v c d c0 d0 e k h = (
+  lt-of-mul-lt-mul-right d (omega (arith, mul-lt-mul-of-pos-right {k = c} (h .0) c0, ap (λ (n : ℕ). F * n) k)),
+  lt-of-mul-lt-mul-right d (omega (arith, mul-lt-mul-of-pos-right {k = c} (h .1) c0, ap (λ (n : ℕ). F * n) k)),
+)
 
 -- the magnitude a / b in the cell F, which has its top bit at t, rounded to n bits
 module _ (rest : Bool) (a b i o F t n : ℕ) (b0 : 0 < b) (n0 : 1 ≤ n) (fine : n ≤ t) (t0 : 2 ^ t ≤ F) (t1 : F < 2 ^ suc t) (h : InCell rest (a * 2 ^ o) F (b * 2 ^ i)) where
@@ -42,8 +43,13 @@ module _ (rest : Bool) (a b i o F t n : ℕ) (b0 : 0 < b) (n0 : 1 ≤ n) (fine :
 
   high : a * 2 ^ o < 2 * (b * 2 ^ (t + i))
   high =
-      omega (arith, mul-le-mul-right (b * 2 ^ i) t1, cell-high rest (a * 2 ^ o) F (b * 2 ^ i) (mul-le-mul b0 (pow-pos i)) h, ap (λ (m : ℕ). b * m) (pow-add 2 t i),
-      ap (λ (m : ℕ). m * (b * 2 ^ i)) (pow-succ' 2 t))
+      omega (
+        arith,
+        mul-le-mul-right (b * 2 ^ i) t1,
+        cell-high rest (a * 2 ^ o) F (b * 2 ^ i) (mul-le-mul b0 (pow-pos i)) h,
+        ap (λ (m : ℕ). b * m) (pow-add 2 t i),
+        ap (λ (m : ℕ). m * (b * 2 ^ i)) (pow-succ' 2 t),
+      )
 
   above-zero : 0 < a
   above-zero = lt-of-mul-lt-mul-right (2 ^ o) (lt-of-lt-of-le (omega (arith, mul-le-mul b0 (pow-pos (t + i)))) low)
@@ -87,14 +93,20 @@ module _ (x : Fraction) (rest : Bool) (i o F t n : ℕ) (b0 : IsFraction x) (n0 
   pub round-cell : (mode : Mode) → round mode n x ≡ placed (isNegative (x .numerator)) (minus (t + i) o) n (wholeOf mode (isNegative (x .numerator)) (2 * F + digit rest) (2 * (2 * 2 ^ (t - n))))
   unfolding round roundedAt IsFraction
   round-cell mode =
-      rw (not-zero, exponent-cell rest (natAbs (x .numerator)) (x .denominator) i o F t n b0 n0 fine t0 t1 h,
-      whole-at rest (natAbs (x .numerator)) (x .denominator) i o F t n b0 n0 fine t0 t1 h mode (isNegative (x .numerator)))
+      rw (
+        not-zero,
+        exponent-cell rest (natAbs (x .numerator)) (x .denominator) i o F t n b0 n0 fine t0 t1 h,
+        whole-at rest (natAbs (x .numerator)) (x .denominator) i o F t n b0 n0 fine t0 t1 h mode (isNegative (x .numerator)),
+      )
 
   pub claim-cell : claimed n x ≡ cond (isWorkingExponent (minus (t + i) o)) (cond (eqb ((2 * F + digit rest) % (2 * (2 * 2 ^ (t - n)))) 0) (given (round Trunc n x)) (refused 8)) (refused 7)
   unfolding claimed IsFraction
   claim-cell =
-      rw (not-zero, exponent-cell rest (natAbs (x .numerator)) (x .denominator) i o F t n b0 n0 fine t0 t1 h,
-      bits-at rest (natAbs (x .numerator)) (x .denominator) i o F t n b0 n0 fine t0 t1 h)
+      rw (
+        not-zero,
+        exponent-cell rest (natAbs (x .numerator)) (x .denominator) i o F t n b0 n0 fine t0 t1 h,
+        bits-at rest (natAbs (x .numerator)) (x .denominator) i o F t n b0 n0 fine t0 t1 h,
+      )
 
 -- Two fractions with one sign in one cell, on a grid of which the cell has more bits than the task, are rounded alike.
 module _ (x y : Fraction) (rest : Bool) (i o F : ℕ) (x0 : IsFraction x) (y0 : IsFraction y) (sign : isNegative (x .numerator) ≡ isNegative (y .numerator))

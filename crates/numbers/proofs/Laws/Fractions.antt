@@ -29,10 +29,12 @@ signed-sum-times s t a b c = go (decLe b a) s t
   where
     same : (s : Bool) → (signed s a +ℤ signed s b) *ℤ pos c ≡ signed s a *ℤ pos c +ℤ signed s b *ℤ pos c
     same s = simp (same-sign, signed-times) (ap (signed s) (add-mul a b c))
+
     less : (s : Bool) (a b : ℕ) → b ≤ a → (signed s a +ℤ signed (not s) b) *ℤ pos c ≡ signed s a *ℤ pos c +ℤ signed (not s) b *ℤ pos c
     less s a b h =
         ap (λ (z : ℤ). z *ℤ pos c) (other-sign s a b h) ∙ signed-times s (a - b) c ∙ ap (signed s) (mul-comm (a - b) c ∙ mul-sub c a b ∙ ap₂ _-_ (mul-comm c a) (mul-comm c b))
         ∙ sym (ap₂ _+ℤ_ (signed-times s a c) (signed-times (not s) b c) ∙ other-sign s (a * c) (b * c) (mul-le-mul-right c h))
+
     other : Dec (b ≤ a) → (s : Bool) → (signed s a +ℤ signed (not s) b) *ℤ pos c ≡ signed s a *ℤ pos c +ℤ signed (not s) b *ℤ pos c
     other (yes h) s = less s a b h
     other (no n) s =
@@ -42,6 +44,7 @@ signed-sum-times s t a b c = go (decLe b a) s t
       where
         turned : (t s : Bool) → not t ≡ s → (signed t b +ℤ signed s a) *ℤ pos c ≡ signed t b *ℤ pos c +ℤ signed s a *ℤ pos c
         turned t s e = rw (← e) (less t b a (le-of-lt (lt-of-not-le n)))
+
     go : Dec (b ≤ a) → (s t : Bool) → (signed s a +ℤ signed t b) *ℤ pos c ≡ signed s a *ℤ pos c +ℤ signed t b *ℤ pos c
     go d false false = same false
     go d true true = same true

@@ -57,9 +57,10 @@ pub finite-operand : (x : Number) (s : Bool) (e : ℤ) (S E : ℕ) → x ≡ Fin
     → Equal (value x) (operandValue (record { negative = s; exponent = E; significand = S })) × IsOperand (record { negative = s; exponent = E; significand = S })
 unfolding Equal value operandValue scaledValue
 finite-operand x s e S E k working b range =
-    let w = working-parts x s e S working k in
-    (rw (k, b) (signed-times s (S * up (minus E 65535)) (2 ^ lastBit) ∙ ap (signed s) (scaled S E 65535 65598 63 lastBit last-bit) ∙ sym (signed-times s (S * 2 ^ (E + 65598)) (2 ^ 63 * down (minus E 65535)))),
-    record { biased = range; word = w .word; normal = λ (z : 0 < S + E). w .top })
+    let w = working-parts x s e S working k in (
+      rw (k, b) (signed-times s (S * up (minus E 65535)) (2 ^ lastBit) ∙ ap (signed s) (scaled S E 65535 65598 63 lastBit last-bit) ∙ sym (signed-times s (S * 2 ^ (E + 65598)) (2 ^ 63 * down (minus E 65535)))),
+      record { biased = range; word = w .word; normal = λ (z : 0 < S + E). w .top },
+    )
 
 -- ---- the value of an operand, and of a product of two
 

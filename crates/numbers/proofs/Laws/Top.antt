@@ -66,6 +66,7 @@ module _ (F n high low : ℕ) (rest : Bool) (n1 : n ≤ 64) (word : low < 2 ^ 64
     where
       le-of-wide : (h l q : ℕ) → h * 2 ^ 64 + l ≡ q → h * 2 ^ 64 ≤ q
       le-of-wide h l q e = omega arith
+
       whole-width : (n : ℕ) → n ≤ 64 → n + (128 - n) ≡ 128
       whole-width n h = omega arith
 
@@ -88,6 +89,7 @@ module _ (negative : Bool) (e : ℤ) (n q : ℕ) (n1 : n ≤ 64) (q1 : q < 2 ^ n
     where
       le-of-suc : {a b : ℕ} → a < b → a + 1 ≤ b
       le-of-suc l = omega arith
+
       grown : (a u : ℕ) → a * u + u ≤ (a + 1) * u
       grown a u = omega arith
 
@@ -97,6 +99,7 @@ module _ (negative : Bool) (e : ℤ) (n q : ℕ) (n1 : n ≤ 64) (q1 : q < 2 ^ n
     where
       one-more : (a u : ℕ) → (a + 1) * u ≡ a * u + u
       one-more a u = omega arith
+
       full : q + 1 ≡ 2 ^ n → ⊥
       full z = lt-irrefl (2 ^ 64) (lt-of-le-of-lt (le-of-eq (sym word ∙ ap (λ (m : ℕ). m * 2 ^ (64 - n)) (sym z) ∙ one-more q (2 ^ (64 - n)))) h)
 

@@ -81,6 +81,7 @@ value-alone task x y x0 y0 n0 e = go (natAbs (x .numerator)) refl
   where
     cross : natAbs (x .numerator) * y .denominator ≡ natAbs (y .numerator) * x .denominator
     cross = equal-magnitudes x y e
+
     go : (a : ℕ) → natAbs (x .numerator) ≡ a → rounded task x ≡ rounded task y
     go zero k =
         rounded-zero task x k

@@ -28,10 +28,13 @@ cell-div rest a b F J b0 J0 h = le-antisymm low high
   where
     under : a / b * J * b < (F + 1) * b
     under = omega (arith, mul-le-mul-right J (div-mul-le-self a b), cell-high rest (a * J) F b b0 h)
+
     low : a / b ≤ F / J
     low = le-div-iff-mul-le J0 .1 (let l : a / b * J < F + 1 = lt-of-mul-lt-mul-right b under in omega arith)
+
     over : F / J * b * J ≤ a * J
     over = omega (arith, mul-le-mul-right b (div-mul-le-self F J), cell-low rest (a * J) F b h)
+
     high : F / J ≤ a / b
     high = le-div-iff-mul-le b0 .1 (le-of-mul-le-mul-right {k = J} over J0)
 
@@ -105,6 +108,7 @@ flagged rest F J J0 = go rest (F / J) (F % J) (div-add-mod' F J) (mod-lt F J0)
     low : (rest : Bool) (f : ℕ) → f < J → 2 * f + digit rest < 2 * J
     low false f l = omega arith
     low true f l = omega arith
+
     go : (rest : Bool) (q f : ℕ) → q * J + f ≡ F → f < J → ((2 * F + digit rest) / (2 * J) ≡ q) × ((2 * F + digit rest) % (2 * J) ≡ 2 * f + digit rest)
     go rest q f e l =
         let d : 2 * F + digit rest ≡ q * (2 * J) + (2 * f + digit rest) = omega (arith, ap (λ (n : ℕ). 2 * n) e) in

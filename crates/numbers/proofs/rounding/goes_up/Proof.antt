@@ -80,6 +80,7 @@ dropped c = ⊎-elim (λ w. with-rest (c .before .args .fraction) (c .before .ar
   where
     with-rest : (f : ℕ) (rest : Bool) → rest ≡ true → 0 < 2 * f + digit rest
     with-rest f rest e = rw e (omega arith)
+
     nonzero : (f : ℕ) (rest : Bool) → (f ≡ 0 → ⊥) → 0 < 2 * f + digit rest
     nonzero f rest n = omega arith
 

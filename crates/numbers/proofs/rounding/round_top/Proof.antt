@@ -53,6 +53,7 @@ module _ (mode : Mode) (negative : Bool) (x z F n high low : ℕ) (rest up : Boo
     where
       one-later : (x : ℕ) → x + 1 + 127 ≡ suc (x + 127)
       one-later x = omega arith
+
       passed : (a b : ℕ) {s u : ℕ} → (2 ^ 64 - 1) - a < b → a ≡ s → b ≡ u → 2 ^ 64 ≤ s + u
       passed a b l p q = omega arith
 

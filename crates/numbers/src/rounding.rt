@@ -3,6 +3,7 @@
 ghost use mathlib.Core.Path.{_≡_};
 ghost use mathlib.Core.Bool.{true};
 ghost use Prim.Native.Nat.{_+_, _*_, _^_, _≤_, _<_};
+ghost use lib.Dec.{ltb};
 ghost use lib.Ieee.{minus};
 ghost use Rattle.numbers.specs.Answer.{outcome, checked, taskOf, precisionOf, rounded};
 ghost use Rattle.numbers.specs.Number.{isWorkingExponent};
@@ -78,15 +79,22 @@ pub(crate) fn task_of(code: u32, precision: u32) -> Task
     }
 }
 
-// Does the whole number go up by one? The fraction is fraction / 2^64, and a little more where rest
-// is set.
+// Is there a fraction? It is fraction / 2^64, and a little more where rest is set.
+fn has_fraction(fraction: u64, rest: bool) -> bool
+    ensures { λ r. ⌜ r ≡ ltb 0 (2 * fraction + digit rest) ⌝ }
+{
+    if fraction > 0 {
+        return true;
+    }
+    rest
+}
+
+// Does the whole number go up by one?
 fn goes_up(mode: Mode, negative: bool, whole: u64, fraction: u64, rest: bool) -> bool
     ensures { λ r. ⌜ r ≡ goesUp mode negative whole (2 * fraction + digit rest) (2 ^ 65) ⌝ }
 {
-    if fraction == 0 {
-        if !rest {
-            return false;
-        }
+    if !has_fraction(fraction, rest) {
+        return false;
     }
     match mode {
         Mode::Trunc => false,
@@ -126,14 +134,15 @@ fn placed(negative: bool, exponent: u32, zeros: u32, significand: u64) -> Answer
     requires { ⌜ (exponent ≤ 262143) × (zeros ≤ 127) ⌝ }
     ensures { λ r. ⌜ outcome r ≡ checked (Number.Finite negative (minus (exponent + 127) (lastBit + zeros)) significand) ⌝ }
 {
-    if !is_inside(exponent, zeros) {
-        return Answer::ExponentOutside;
+    if is_inside(exponent, zeros) {
+        Answer::Given(Number::Finite {
+            negative,
+            exponent: unbiased(exponent - (zeros + 65_534)),
+            significand,
+        })
+    } else {
+        Answer::ExponentOutside
     }
-    Answer::Given(Number::Finite {
-        negative,
-        exponent: unbiased(exponent - (zeros + 65_534)),
-        significand,
-    })
 }
 
 // A magnitude with its top bit at bit 127, rounded by a mode.
@@ -161,15 +170,14 @@ fn claim_top(negative: bool, exponent: u32, zeros: u32, top: Words, claim: Claim
     requires { ⌜ (exponent ≤ 262142) × (zeros ≤ 127) × (wide (top .high) (top .low) < 2 ^ 128) × (1 ≤ claim .precision) × (claim .precision ≤ 64) ⌝ }
     ensures { λ r. ⌜ outcome r ≡ claimedTop negative (minus (exponent + 127) (lastBit + zeros)) (claim .precision) (wide (top .high) (top .low)) ⌝ }
 {
-    if !is_inside(exponent, zeros) {
-        return Answer::ExponentOutside;
-    }
     let shift = 64 - claim.precision;
     let cell = shift_right(top, shift);
-    if cell.low > 0 {
-        return Answer::TooManyBits;
+    let inside = is_inside(exponent, zeros);
+    let inexact = has_fraction(cell.low, cell.rest);
+    if !inside {
+        return Answer::ExponentOutside;
     }
-    if cell.rest {
+    if inexact {
         return Answer::TooManyBits;
     }
     placed(negative, exponent, zeros, cell.high << shift)

@@ -58,7 +58,7 @@ fn added(large: Operand, small: Operand, task: Task) -> Answer
 {
     let top = raised(large.significand);
     let cell = shift_right(raised(small.significand), large.exponent - small.exponent);
-    let magnitude = total(
+    let joined = total(
         top,
         Words {
             high: cell.high,
@@ -68,7 +68,7 @@ fn added(large: Operand, small: Operand, task: Task) -> Answer
     round(
         large.negative,
         large.exponent + 65_535,
-        sticky(magnitude, cell.rest),
+        sticky(joined, cell.rest),
         task,
     )
 }
@@ -88,11 +88,11 @@ fn subtracted(large: Operand, small: Operand, task: Task) -> Answer
             low: cell.low,
         },
     );
-    let magnitude = remainder(less, borrow(cell.rest));
+    let left = remainder(less, borrow(cell.rest));
     round(
         large.negative,
         large.exponent + 65_535,
-        sticky(magnitude, cell.rest),
+        sticky(left, cell.rest),
         task,
     )
 }

@@ -1,12 +1,11 @@
 -- `numbers::rounding::goes_up` meets its contract: in each mode the tests on the fraction's word and on the rest are those of `goesUp`.
 use mathlib.Core.Path.{_≡_, refl, sym, ap, _∙_}
 use mathlib.Core.Bool.{Bool, true, false, not}
-use mathlib.Core.Logic.{⊎-elim}
-use Prim.Native.Nat.{ℕ, _+_, _*_, _%_, _^_, _<_}
+use Prim.Native.Nat.{ℕ, _+_, _*_, _%_, _^_, _≤_, _<_}
 use native.Mathlib.Omega.{arith}
-use lib.Dec.{eqb}
+use lib.Dec.{ltb, eqb}
 use borrow.Author.Needs.{needs}
-use borrow.Author.Tests.{lt-ltb, le-ltb, eq-eqb, ne-eqb, not-true, not-false}
+use borrow.Author.Tests.{ltb-true, ltb-false, lt-ltb, le-ltb, ne-eqb, not-true, not-false}
 use Rattle.numbers.specs.Grid.{digit}
 use Rattle.numbers.specs.Rounding.{goesUp}
 use Rattle.numbers.specs.declared.rounding.Mode.{Mode}
@@ -25,8 +24,8 @@ exact Up negative q = refl
 exact Down negative q = refl
 
 module _ (mode : Mode) (negative : Bool) (q f : ℕ) (rest : Bool) where
-  nothing : f ≡ 0 → rest ≡ false → false ≡ goesUp mode negative q (2 * f + digit rest) (2 ^ 65)
-  nothing e k = rw (e, k) (sym (exact mode negative q))
+  nothing : 2 * f + digit rest ≤ 0 → false ≡ goesUp mode negative q (2 * f + digit rest) (2 ^ 65)
+  nothing l = sym (ap (λ (r : ℕ). goesUp mode negative q r (2 ^ 65)) (let e : 2 * f + digit rest ≡ 0 = omega arith in e) ∙ exact mode negative q)
 
   trunc : mode ≡ Trunc → false ≡ goesUp mode negative q (2 * f + digit rest) (2 ^ 65)
   unfolding goesUp
@@ -75,17 +74,17 @@ module _ (mode : Mode) (m : mode ≡ Near) (negative : Bool) (q f : ℕ) where
   near-tie rest e k = rw (e, k, m)
 
 -- past the first test something was dropped
-dropped : (c : tie.Joined1) → 0 < 2 * (c .before .args .fraction) + digit (c .before .args .rest)
-dropped c = ⊎-elim (λ w. with-rest (c .before .args .fraction) (c .before .args .rest) (not-false _ (w .1 .left))) (λ w. nonzero (c .before .args .fraction) (c .before .args .rest) (w .left)) (c .if1 .came)
-  where
-    with-rest : (f : ℕ) (rest : Bool) → rest ≡ true → 0 < 2 * f + digit rest
-    with-rest f rest e = rw e (omega arith)
+none : (t : Bool) (r : ℕ) → t ≡ ltb 0 r → not t ≡ true → r ≤ 0
+none t r e h = ltb-false 0 r (sym e ∙ not-true t h)
 
-    nonzero : (f : ℕ) (rest : Bool) → (f ≡ 0 → ⊥) → 0 < 2 * f + digit rest
-    nonzero f rest n = omega arith
+dropped : (t : Bool) (r : ℕ) → t ≡ ltb 0 r → not t ≡ false → 0 < r
+dropped t r e h = ltb-true 0 r (sym e ∙ not-false t h)
+
+has-fraction-requires : tie.Need-has-fraction-requires
+has-fraction-requires c κs = search needs
 
 returns : tie.Need-returns
-returns c = nothing _ _ _ _ (c .before .before .args .rest) (c .before .if1 .taken) (not-true _ (c .if2 .taken))
+returns c = nothing _ _ _ _ (c .before .before .args .rest) (none _ _ (c .before .has-fraction .ensures) (c .if1 .taken))
 
 enum-told : tie.Need-enum-told
 enum-told c = search needs
@@ -97,13 +96,13 @@ enum-told-3 : tie.Need-enum-told-3
 enum-told-3 c = search needs
 
 returns-2 : tie.Need-returns-2
-returns-2 c = near-below _ (c .before .enum-told3 .given .1) _ _ _ (c .before .before .before .before .args .rest) (c .if3 .taken)
+returns-2 c = near-below _ (c .before .enum-told3 .given .1) _ _ _ (c .before .before .before .before .before .args .rest) (c .if2 .taken)
 
 returns-3 : tie.Need-returns-3
-returns-3 c = near-above _ (c .before .before .enum-told3 .given .1) _ _ _ (c .before .before .before .before .before .args .rest) (c .if4 .taken)
+returns-3 c = near-above _ (c .before .before .enum-told3 .given .1) _ _ _ (c .before .before .before .before .before .before .args .rest) (c .if3 .taken)
 
 returns-4 : tie.Need-returns-4
-returns-4 c = near-rest _ (c .before .before .before .enum-told3 .given .1) _ _ _ _ (omega arith) (c .if5 .taken)
+returns-4 c = near-rest _ (c .before .before .before .enum-told3 .given .1) _ _ _ _ (omega arith) (c .if4 .taken)
 
 enum-told-4 : tie.Need-enum-told-4
 enum-told-4 c = search needs
@@ -115,27 +114,28 @@ enum-told-6 : tie.Need-enum-told-6
 enum-told-6 c = search needs
 
 returns-5 : tie.Need-returns-5
-returns-5 c = trunc _ _ _ _ (c .before .before .before .args .rest) (c .enum-told .given .1)
+returns-5 c = trunc _ _ _ _ (c .before .before .before .before .args .rest) (c .enum-told .given .1)
 
 returns-6 : tie.Need-returns-6
-returns-6 c = away _ _ _ _ (c .before .before .before .args .rest) (dropped (c .before .before)) (c .enum-told2 .given .1)
+returns-6 c = away _ _ _ _ (c .before .before .before .before .args .rest) (dropped _ _ (c .before .before .before .has-fraction .ensures) (c .before .before .if1 .left)) (c .enum-told2 .given .1)
 
 returns-7 : tie.Need-returns-7
-returns-7 c = near-tie _ (c .before .before .before .enum-told3 .given .1) _ _ _ _ (omega arith) (c .if5 .left)
+returns-7 c = near-tie _ (c .before .before .before .enum-told3 .given .1) _ _ _ _ (omega arith) (c .if4 .left)
 
 returns-8 : tie.Need-returns-8
-returns-8 c = sticky _ _ _ _ (c .before .before .before .args .rest) (dropped (c .before .before)) (c .enum-told4 .given .1)
+returns-8 c = sticky _ _ _ _ (c .before .before .before .before .args .rest) (dropped _ _ (c .before .before .before .has-fraction .ensures) (c .before .before .if1 .left)) (c .enum-told4 .given .1)
 
 returns-9 : tie.Need-returns-9
-returns-9 c = up _ _ _ _ (c .before .before .before .args .rest) (dropped (c .before .before)) (c .enum-told5 .given .1)
+returns-9 c = up _ _ _ _ (c .before .before .before .before .args .rest) (dropped _ _ (c .before .before .before .has-fraction .ensures) (c .before .before .if1 .left)) (c .enum-told5 .given .1)
 
 returns-10 : tie.Need-returns-10
-returns-10 c = down _ _ _ _ (c .before .before .before .args .rest) (dropped (c .before .before)) (c .enum-told6 .given .1)
+returns-10 c = down _ _ _ _ (c .before .before .before .before .args .rest) (dropped _ _ (c .before .before .before .has-fraction .ensures) (c .before .before .if1 .left)) (c .enum-told6 .given .1)
 
 pub goes-up-spec : {M : Type 1} → statement M
 goes-up-spec =
     tie.close
     (tie.spec
+    has-fraction-requires
     returns
     enum-told
     enum-told-2

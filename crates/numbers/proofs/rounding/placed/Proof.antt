@@ -4,7 +4,6 @@ use mathlib.Core.Bool.{Bool, true, false}
 use Prim.Native.Nat.{ℕ, _+_, _-_, _≤_}
 use native.Mathlib.Omega.{arith}
 use borrow.Author.Needs.{needs}
-use borrow.Author.Tests.{not-true, not-false}
 use lib.Ieee.{minus}
 use lib.IntN.{ℤ}
 use mir.Facts.{toZ-ofZ}
@@ -40,22 +39,22 @@ module _ (negative : Bool) (S x z : ℕ) (inside : Bool) (e : inside ≡ isWorki
 is-inside-requires : tie.Need-is-inside-requires
 is-inside-requires c κs = search needs
 
-returns : tie.Need-returns
-returns c = outside _ _ _ _ _ (c .before .is-inside .ensures) (not-true _ (c .if1 .taken))
-
 add-unbiased : tie.Need-add-unbiased
 add-unbiased c = search needs
 
 sub-unbiased : tie.Need-sub-unbiased
-sub-unbiased c = range (c .before .before .args .negative) (c .before .before .args .significand) _ _ _ (c .before .is-inside .ensures) (not-false _ (c .if1 .left)) .0
+sub-unbiased c = range (c .before .before .args .negative) (c .before .before .args .significand) _ _ _ (c .before .is-inside .ensures) (c .if1 .taken) .0
 
 unbiased-requires : tie.Need-unbiased-requires
-unbiased-requires c κs = range (c .before .before .args .negative) (c .before .before .args .significand) _ _ _ (c .before .is-inside .ensures) (not-false _ (c .if1 .left)) .1
+unbiased-requires c κs = range (c .before .before .args .negative) (c .before .before .args .significand) _ _ _ (c .before .is-inside .ensures) (c .if1 .taken) .1
+
+returns : tie.Need-returns
+returns c = fit _ _ _ _ _ (c .before .before .is-inside .ensures) (c .before .if1 .taken) _ (record { sfits = c .unbiased .ok }) (c .unbiased .ensures)
 
 returns-2 : tie.Need-returns-2
-returns-2 c = fit _ _ _ _ _ (c .before .before .is-inside .ensures) (not-false _ (c .before .if1 .left)) _ (record { sfits = c .unbiased .ok }) (c .unbiased .ensures)
+returns-2 c = outside _ _ _ _ _ (c .before .is-inside .ensures) (c .if1 .left)
 
 pub placed-spec : {M : Type 1} → statement M
 placed-spec =
     tie.close
-    (tie.spec is-inside-requires returns add-unbiased sub-unbiased unbiased-requires returns-2)
+    (tie.spec is-inside-requires add-unbiased sub-unbiased unbiased-requires returns returns-2)

@@ -1,3 +1,3 @@
--- The laws that the proofs of several functions share, and the known values.
+-- The laws and the known values; each function's proof stands in the folder of its name.
 pub mod Known
 pub mod Laws

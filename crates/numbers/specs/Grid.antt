@@ -1,5 +1,5 @@
--- The words that the laws of rounding are stated in: magnitudes, the unit of the last place, cells of a grid, and numbers that a grid does
--- not tell apart. Contracts cite `InCell` and `digit` at most; the laws stand in proofs/Laws.
+-- The terms that the laws of rounding are stated in: the unit of the last place, cells of a grid, numbers that a grid does not tell apart, and
+-- fractions that are rounded alike. Private contracts cite `digit`; the laws stand in proofs/Laws.
 use mathlib.Core.Path.{_≡_}
 use mathlib.Core.Logic.{_↔_}
 use mathlib.Core.Bool.{Bool, true, false}
@@ -8,19 +8,9 @@ use lib.Ieee.{up, down}
 use lib.IntN.{ℤ, pos, natAbs, _*ℤ_}
 use lib.Signed.{_<ℤ_}
 use Rattle.numbers.specs.Fraction.{Fraction, AtMost, signed}
-use Rattle.numbers.specs.Rounding.{exponentOf}
-
--- a fraction without its sign
-unfoldable pub magnitude : Fraction → Fraction
-magnitude x = record { numerator = pos (natAbs (x .numerator)); denominator = x .denominator }
-
--- k times a fraction
-unfoldable pub times : ℕ → Fraction → Fraction
-times k x = record { numerator = x .numerator *ℤ pos k; denominator = x .denominator }
-
--- x < y, by cross products
-unfoldable pub Below : Fraction → Fraction → Type 0
-Below x y = (x .numerator *ℤ pos (y .denominator)) <ℤ (y .numerator *ℤ pos (x .denominator))
+use Rattle.numbers.specs.Rounding.{exponentOf, round}
+use Rattle.numbers.specs.Answer.{claimed}
+use Rattle.numbers.specs.declared.task.Mode.{Mode}
 
 -- the unit of the last of n bits of x, which is not zero: 2^(e − n + 1), e being the exponent of x
 unfoldable pub unitOf : ℕ → Fraction → Fraction
@@ -51,3 +41,8 @@ multiple k i o = record { numerator = k *ℤ pos (2 ^ i); denominator = 2 ^ o }
 -- no multiple of the grid 2^i / 2^o tells x and y apart
 unfoldable pub Alike : ℕ → ℕ → Fraction → Fraction → Type 0
 Alike i o x y = (k : ℤ) → (AtMost (multiple k i o) x ↔ AtMost (multiple k i o) y) × (AtMost x (multiple k i o) ↔ AtMost y (multiple k i o))
+
+-- x and y are rounded alike to n bits: to one number in every mode, and an exact claim of either has one answer
+pub record RoundedAlike (n : ℕ) (x y : Fraction) : Type 0 where
+  pub rounds : (mode : Mode) → round mode n x ≡ round mode n y
+  pub claims : claimed n x ≡ claimed n y

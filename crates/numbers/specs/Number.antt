@@ -1,5 +1,6 @@
--- Document 01, "Numbers": which numbers are fit. A number is the enum `Number` of src/number.rs: Zero, or Finite with its sign (true for negative),
--- its exponent and its significand.
+-- Document 01, "Numbers": which numbers are fit.
+-- "A number is zero, or a sign, an exponent and a significand." It is the enum `Number` of src/number.rt: Zero, or Finite with its sign (true for
+-- negative), its exponent and its significand. "Zero has no sign."
 use mathlib.Core.Bool.{Bool, true, not, _&&_}
 use Prim.Native.Nat.{ℕ, _^_}
 use lib.Dec.{leb, ltb}
@@ -16,23 +17,26 @@ isSignificand S = leb (2 ^ 63) S && ltb S (2 ^ 64)
 unfoldable pub isBetween : ℤ → ℤ → ℤ → Bool
 isBetween lowest highest e = leZ lowest e && leZ e highest
 
--- "A nonzero number with the top bit of S clear, or with e outside the named range, is unfit. Zero is always fit."
-unfoldable pub isFit : ℤ → ℤ → Number → Bool
-isFit lowest highest Zero = true
-isFit lowest highest (Finite negative e S) = isBetween lowest highest e && isSignificand S
-
 -- "Working: e from −65,535 to 65,536."
 unfoldable pub isWorkingExponent : ℤ → Bool
 isWorkingExponent e = isBetween (negℤ (pos 65535)) (pos 65536) e
 
-unfoldable pub isWorking : Number → Bool
-isWorking x = isFit (negℤ (pos 65535)) (pos 65536) x
-
 -- "Admissible: e from −16,446 to 16,384."
-unfoldable pub isAdmissible : Number → Bool
-isAdmissible x = isFit (negℤ (pos 16446)) (pos 16384) x
+unfoldable pub isAdmissibleExponent : ℤ → Bool
+isAdmissibleExponent e = isBetween (negℤ (pos 16446)) (pos 16384) e
 
--- −x: "Zero has no sign."
-unfoldable pub opposite : Number → Number
-opposite Zero = Zero
-opposite (Finite negative e S) = Finite (not negative) e S
+-- "A nonzero number with the top bit of S clear, or with e outside the named range, is unfit. Zero is always fit."
+unfoldable pub isFit : (ℤ → Bool) → Number → Bool
+isFit inRange Zero = true
+isFit inRange (Finite negative e S) = inRange e && isSignificand S
+
+unfoldable pub isWorking : Number → Bool
+isWorking x = isFit isWorkingExponent x
+
+unfoldable pub isAdmissible : Number → Bool
+isAdmissible x = isFit isAdmissibleExponent x
+
+-- −x
+unfoldable pub negated : Number → Number
+negated Zero = Zero
+negated (Finite negative e S) = Finite (not negative) e S

@@ -4,7 +4,7 @@ ghost use mathlib.Core.Path.{_≡_};
 ghost use mathlib.Core.Bool.{true};
 ghost use Prim.Native.Nat.{_≤_};
 ghost use lib.Ieee.{minus};
-ghost use Rattle.numbers.specs.Number.{isFit, isWorking, isAdmissible, isWorkingExponent, opposite};
+ghost use Rattle.numbers.specs.Number.{isBetween, isFit, isWorking, isAdmissible, isWorkingExponent, negated};
 
 // Zero, or a sign, an exponent and a significand: sign × significand × 2^(exponent − 63).
 pub enum Number {
@@ -25,6 +25,11 @@ pub const LOWEST_ADMISSIBLE: i32 = -16_446;
 
 pub const HIGHEST_ADMISSIBLE: i32 = 16_384;
 
+// What is added to a working exponent inside the crate, and the highest sum.
+const BIAS: i32 = 65_535;
+
+pub(crate) const HIGHEST_BIASED: u32 = 131_071;
+
 // The lowest significand: its top bit alone.
 pub const TOP_BIT: u64 = 0x8000_0000_0000_0000;
 
@@ -44,7 +49,7 @@ pub fn is_admissible(x: Number) -> bool
 
 // Is x zero, or has its significand the top bit set and is its exponent between the two ends?
 fn is_fit(x: Number, lowest: i32, highest: i32) -> bool
-    ensures { λ r. ⌜ r ≡ isFit lowest highest x ⌝ }
+    ensures { λ r. ⌜ r ≡ isFit (isBetween lowest highest) x ⌝ }
 {
     let Number::Finite {
         negative: _,
@@ -64,7 +69,7 @@ fn is_fit(x: Number, lowest: i32, highest: i32) -> bool
 
 // −x.
 pub fn negated(x: Number) -> Number
-    ensures { λ r. ⌜ r ≡ opposite x ⌝ }
+    ensures { λ r. ⌜ r ≡ negated x ⌝ }
 {
     match x {
         Number::Zero => Number::Zero,
@@ -85,7 +90,7 @@ pub(crate) fn biased(exponent: i32) -> u32
     requires { ⌜ isWorkingExponent exponent ≡ true ⌝ }
     ensures { λ r. ⌜ (exponent ≡ minus r 65535) × (r ≤ 131071) ⌝ }
 {
-    (exponent + 65_535) as u32
+    (exponent + BIAS) as u32
 }
 
 // The exponent that a biased one stands for.
@@ -93,5 +98,5 @@ pub(crate) fn unbiased(b: u32) -> i32
     requires { ⌜ b ≤ 131071 ⌝ }
     ensures { λ r. ⌜ r ≡ minus b 65535 ⌝ }
 {
-    b as i32 - 65_535
+    b as i32 - BIAS
 }

@@ -3,21 +3,26 @@
 ghost use mathlib.Core.Path.{_≡_};
 ghost use mathlib.Core.Bool.{true};
 ghost use Prim.Native.Nat.{_≤_};
-ghost use Rattle.numbers.specs.Answer.{outcome, precisionOf, rounded, operationOf, sumOf, differenceOf, productOf, exactOf};
-ghost use Rattle.numbers.specs.Fraction.{value, product as exactProduct};
+ghost use Rattle.numbers.specs.Rounding.{precisionOf};
+ghost use Rattle.numbers.specs.Answer.{outcome, rounded, operationOf, sumOf, differenceOf, productOf};
+ghost use Rattle.numbers.specs.Fraction.{value, product};
 ghost use Rattle.numbers.specs.Number.{isWorking};
-ghost use Rattle.numbers.specs.Words.{operandValue, IsOperand};
+ghost use Rattle.numbers.specs.Words.{operandValue, IsOperand, exactOf};
 use super::answer::Answer;
 use super::number::Number;
 use super::number::is_working;
 use super::number::negated;
 use super::operand::Operand;
 use super::operand::operand_of;
-use super::rounding::Task;
-use super::rounding::round;
-use super::rounding::task_of;
-use super::sum::sum;
+use super::rounding::rounded;
+use super::task::Task;
+use super::task::task_of;
+use super::sum::rounded_sum;
 use super::words;
+
+// The last mode code, and the largest precision.
+const LAST_CODE: u32 = 6;
+const LARGEST_PRECISION: u32 = 64;
 
 // a + b.
 pub fn add(a: Number, b: Number, code: u32, precision: u32) -> Answer
@@ -50,13 +55,13 @@ enum Operation {
 fn operate(operation: Operation, a: Number, b: Number, code: u32, precision: u32) -> Answer
     ensures { λ r. ⌜ outcome r ≡ operationOf (exactOf operation) a b code precision ⌝ }
 {
-    if 6 < code {
+    if LAST_CODE < code {
         return Answer::UnknownMode;
     }
     if precision < 1 {
         return Answer::BadPrecision;
     }
-    if 64 < precision {
+    if LARGEST_PRECISION < precision {
         return Answer::BadPrecision;
     }
     if !is_working(a) {
@@ -65,29 +70,29 @@ fn operate(operation: Operation, a: Number, b: Number, code: u32, precision: u32
     if !is_working(b) {
         return Answer::SecondUnfit;
     }
-    exactly(operation, a, b, task_of(code, precision))
+    answer_of(operation, a, b, task_of(code, precision))
 }
 
-// The operation on two working numbers, rounded once by the task.
-fn exactly(operation: Operation, a: Number, b: Number, task: Task) -> Answer
+// The answer for two working numbers: the exact operation, rounded once by the task.
+fn answer_of(operation: Operation, a: Number, b: Number, task: Task) -> Answer
     requires { ⌜ (isWorking a ≡ true) × (isWorking b ≡ true) × (1 ≤ precisionOf task) × (precisionOf task ≤ 64) ⌝ }
     ensures { λ r. ⌜ outcome r ≡ rounded task (exactOf operation (value a) (value b)) ⌝ }
 {
     let x = operand_of(a);
     match operation {
-        Operation::Sum => sum(x, operand_of(b), task),
-        Operation::Difference => sum(x, operand_of(negated(b)), task),
-        Operation::Product => product(x, operand_of(b), task),
+        Operation::Sum => rounded_sum(x, operand_of(b), task),
+        Operation::Difference => rounded_sum(x, operand_of(negated(b)), task),
+        Operation::Product => rounded_product(x, operand_of(b), task),
     }
 }
 
 // a × b, rounded by the task: the significands' product is exact in two words.
-fn product(a: Operand, b: Operand, task: Task) -> Answer
+fn rounded_product(a: Operand, b: Operand, task: Task) -> Answer
     requires { ⌜ IsOperand a × IsOperand b × (1 ≤ precisionOf task) × (precisionOf task ≤ 64) ⌝ }
-    ensures { λ r. ⌜ outcome r ≡ rounded task (exactProduct (operandValue a) (operandValue b)) ⌝ }
+    ensures { λ r. ⌜ outcome r ≡ rounded task (product (operandValue a) (operandValue b)) ⌝ }
 {
     let negative = a.negative != b.negative;
-    round(
+    rounded(
         negative,
         a.exponent + b.exponent,
         words::product(a.significand, b.significand),

@@ -1,83 +1,30 @@
-// Rounding to n bits: the six modes, the task of a step, and the one place where a magnitude of two
-// words is rounded. The two-word magnitude F at exponent x stands for F × 2^(x − 131,196).
+// The one place where a magnitude is rounded. The two-word magnitude F at exponent x stands for F × 2^(x − 131,196).
 ghost use mathlib.Core.Path.{_≡_};
 ghost use mathlib.Core.Bool.{true};
 ghost use Prim.Native.Nat.{_+_, _*_, _^_, _≤_, _<_};
 ghost use lib.Dec.{ltb};
 ghost use lib.Ieee.{minus};
-ghost use Rattle.numbers.specs.Answer.{outcome, checked, taskOf, precisionOf, rounded};
+ghost use Rattle.numbers.specs.Answer.{outcome, checked, rounded};
 ghost use Rattle.numbers.specs.Number.{isWorkingExponent};
-ghost use Rattle.numbers.specs.Rounding.{goesUp};
+ghost use Rattle.numbers.specs.Rounding.{goesUp, precisionOf};
 ghost use Rattle.numbers.specs.Words.{wide, lastBit, scaledValue, roundedTop, claimedTop};
 ghost use Rattle.numbers.specs.Grid.{digit};
 use super::answer::Answer;
+use super::number::HIGHEST_BIASED;
 use super::number::Number;
 use super::number::TOP_BIT;
 use super::number::unbiased;
+use super::task::Claim;
+use super::task::Mode;
+use super::task::Rounding;
+use super::task::Task;
 use super::words::Words;
 use super::words::leading_zeros;
 use super::words::shift_left;
 use super::words::shift_right;
 
-pub enum Mode {
-    Trunc,
-    Away,
-    Near,
-    Sticky,
-    Up,
-    Down,
-}
-
-// A rounding mode with a precision.
-pub struct Rounding {
-    pub mode: Mode,
-    pub precision: u32,
-}
-
-// An exactness claim: the value has at most this many significant bits.
-pub struct Claim {
-    pub precision: u32,
-}
-
-// The task of a step.
-pub enum Task {
-    Round(Rounding),
-    Exact(Claim),
-}
-
-// The task that a code from 0 to 6 and a precision name.
-pub(crate) fn task_of(code: u32, precision: u32) -> Task
-    requires { ⌜ code ≤ 6 ⌝ }
-    ensures { λ r. ⌜ r ≡ taskOf code precision ⌝ }
-{
-    match code {
-        0 => Task::Round(Rounding {
-            mode: Mode::Trunc,
-            precision,
-        }),
-        1 => Task::Round(Rounding {
-            mode: Mode::Away,
-            precision,
-        }),
-        2 => Task::Round(Rounding {
-            mode: Mode::Near,
-            precision,
-        }),
-        3 => Task::Round(Rounding {
-            mode: Mode::Sticky,
-            precision,
-        }),
-        4 => Task::Round(Rounding {
-            mode: Mode::Up,
-            precision,
-        }),
-        5 => Task::Round(Rounding {
-            mode: Mode::Down,
-            precision,
-        }),
-        _ => Task::Exact(Claim { precision }),
-    }
-}
+// The exponent at which a magnitude with its top bit at bit 127 has the lowest working exponent.
+const LOWEST_AT_TOP: u32 = 65_534;
 
 // Is there a fraction? It is fraction / 2^64, and a little more where rest is set.
 fn has_fraction(fraction: u64, rest: bool) -> bool
@@ -123,21 +70,21 @@ fn is_inside(exponent: u32, zeros: u32) -> bool
     requires { ⌜ (exponent ≤ 262143) × (zeros ≤ 127) ⌝ }
     ensures { λ r. ⌜ r ≡ isWorkingExponent (minus (exponent + 127) (lastBit + zeros)) ⌝ }
 {
-    if exponent < zeros + 65_534 {
+    if exponent < zeros + LOWEST_AT_TOP {
         return false;
     }
-    exponent - (zeros + 65_534) <= 131_071
+    exponent - (zeros + LOWEST_AT_TOP) <= HIGHEST_BIASED
 }
 
 // The number with this significand, or a refusal of its exponent.
-fn placed(negative: bool, exponent: u32, zeros: u32, significand: u64) -> Answer
+fn checked(negative: bool, exponent: u32, zeros: u32, significand: u64) -> Answer
     requires { ⌜ (exponent ≤ 262143) × (zeros ≤ 127) ⌝ }
     ensures { λ r. ⌜ outcome r ≡ checked (Number.Finite negative (minus (exponent + 127) (lastBit + zeros)) significand) ⌝ }
 {
     if is_inside(exponent, zeros) {
         Answer::Given(Number::Finite {
             negative,
-            exponent: unbiased(exponent - (zeros + 65_534)),
+            exponent: unbiased(exponent - (zeros + LOWEST_AT_TOP)),
             significand,
         })
     } else {
@@ -155,13 +102,13 @@ fn round_top(negative: bool, exponent: u32, zeros: u32, top: Words, rounding: Ro
     let cell = shift_right(top, shift);
     let significand = cell.high << shift;
     if !goes_up(mode, negative, cell.high, cell.low, cell.rest) {
-        return placed(negative, exponent, zeros, significand);
+        return checked(negative, exponent, zeros, significand);
     }
     let unit = 1u64 << shift;
     if u64::MAX - significand < unit {
-        placed(negative, exponent + 1, zeros, TOP_BIT)
+        checked(negative, exponent + 1, zeros, TOP_BIT)
     } else {
-        placed(negative, exponent, zeros, significand + unit)
+        checked(negative, exponent, zeros, significand + unit)
     }
 }
 
@@ -180,11 +127,11 @@ fn claim_top(negative: bool, exponent: u32, zeros: u32, top: Words, claim: Claim
     if inexact {
         return Answer::TooManyBits;
     }
-    placed(negative, exponent, zeros, cell.high << shift)
+    checked(negative, exponent, zeros, cell.high << shift)
 }
 
 // A two-word magnitude rounded once, or claimed exact, by its task.
-pub(crate) fn round(negative: bool, exponent: u32, magnitude: Words, task: Task) -> Answer
+pub(crate) fn rounded(negative: bool, exponent: u32, magnitude: Words, task: Task) -> Answer
     requires { ⌜ (exponent ≤ 262142) × (1 ≤ precisionOf task) × (precisionOf task ≤ 64) ⌝ }
     ensures { λ r. ⌜ outcome r ≡ rounded task (scaledValue negative (wide (magnitude .high) (magnitude .low)) exponent) ⌝ }
 {

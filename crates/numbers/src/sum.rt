@@ -3,18 +3,23 @@
 ghost use mathlib.Core.Path.{_≡_};
 ghost use mathlib.Core.Bool.{not, cond};
 ghost use Prim.Native.Nat.{_*_, _^_, _≤_};
-ghost use Rattle.numbers.specs.Answer.{outcome, precisionOf, rounded};
-ghost use Rattle.numbers.specs.Fraction.{sum as exactSum};
+ghost use Rattle.numbers.specs.Rounding.{precisionOf};
+ghost use Rattle.numbers.specs.Answer.{outcome, rounded};
+ghost use Rattle.numbers.specs.Fraction.{sum};
 ghost use Rattle.numbers.specs.Grid.{digit};
 ghost use Rattle.numbers.specs.Words.{wide, oddOf, operandValue, IsOperand, IsAligned};
 use super::answer::Answer;
+use super::number::TOP_BIT;
 use super::operand::Operand;
-use super::rounding::Task;
-use super::rounding::round;
+use super::rounding::rounded;
+use super::task::Task;
 use super::words::Words;
-use super::words::remainder;
+use super::words::difference;
 use super::words::shift_right;
-use super::words::total;
+use super::words::sum;
+
+// From an operand's exponent to that of its significand × 2^63 as a two-word magnitude.
+const RAISED: u32 = 65_535;
 
 // significand × 2^63.
 fn raised(significand: u64) -> Words
@@ -22,7 +27,7 @@ fn raised(significand: u64) -> Words
 {
     Words {
         high: significand / 2,
-        low: significand % 2 * 0x8000_0000_0000_0000,
+        low: significand % 2 * TOP_BIT,
     }
 }
 
@@ -54,20 +59,20 @@ fn sticky(a: Words, rest: bool) -> Words
 // The sum of a larger and a smaller operand of one sign.
 fn added(large: Operand, small: Operand, task: Task) -> Answer
     requires { ⌜ IsAligned large small × (small .negative ≡ large .negative) × (1 ≤ precisionOf task) × (precisionOf task ≤ 64) ⌝ }
-    ensures { λ r. ⌜ outcome r ≡ rounded task (exactSum (operandValue large) (operandValue small)) ⌝ }
+    ensures { λ r. ⌜ outcome r ≡ rounded task (sum (operandValue large) (operandValue small)) ⌝ }
 {
     let top = raised(large.significand);
     let cell = shift_right(raised(small.significand), large.exponent - small.exponent);
-    let joined = total(
+    let joined = sum(
         top,
         Words {
             high: cell.high,
             low: cell.low,
         },
     );
-    round(
+    rounded(
         large.negative,
-        large.exponent + 65_535,
+        large.exponent + RAISED,
         sticky(joined, cell.rest),
         task,
     )
@@ -77,21 +82,21 @@ fn added(large: Operand, small: Operand, task: Task) -> Answer
 // lies in the cell below, so one more is taken off.
 fn subtracted(large: Operand, small: Operand, task: Task) -> Answer
     requires { ⌜ IsAligned large small × (small .negative ≡ not (large .negative)) × (1 ≤ precisionOf task) × (precisionOf task ≤ 64) ⌝ }
-    ensures { λ r. ⌜ outcome r ≡ rounded task (exactSum (operandValue large) (operandValue small)) ⌝ }
+    ensures { λ r. ⌜ outcome r ≡ rounded task (sum (operandValue large) (operandValue small)) ⌝ }
 {
     let top = raised(large.significand);
     let cell = shift_right(raised(small.significand), large.exponent - small.exponent);
-    let less = remainder(
+    let less = difference(
         top,
         Words {
             high: cell.high,
             low: cell.low,
         },
     );
-    let left = remainder(less, borrow(cell.rest));
-    round(
+    let left = difference(less, borrow(cell.rest));
+    rounded(
         large.negative,
-        large.exponent + 65_535,
+        large.exponent + RAISED,
         sticky(left, cell.rest),
         task,
     )
@@ -100,7 +105,7 @@ fn subtracted(large: Operand, small: Operand, task: Task) -> Answer
 // The sum of a larger and a smaller operand.
 fn aligned(large: Operand, small: Operand, task: Task) -> Answer
     requires { ⌜ IsAligned large small × (1 ≤ precisionOf task) × (precisionOf task ≤ 64) ⌝ }
-    ensures { λ r. ⌜ outcome r ≡ rounded task (exactSum (operandValue large) (operandValue small)) ⌝ }
+    ensures { λ r. ⌜ outcome r ≡ rounded task (sum (operandValue large) (operandValue small)) ⌝ }
 {
     if large.negative == small.negative {
         added(large, small, task)
@@ -110,9 +115,9 @@ fn aligned(large: Operand, small: Operand, task: Task) -> Answer
 }
 
 // a + b, rounded by the task.
-pub(crate) fn sum(a: Operand, b: Operand, task: Task) -> Answer
+pub(crate) fn rounded_sum(a: Operand, b: Operand, task: Task) -> Answer
     requires { ⌜ IsOperand a × IsOperand b × (1 ≤ precisionOf task) × (precisionOf task ≤ 64) ⌝ }
-    ensures { λ r. ⌜ outcome r ≡ rounded task (exactSum (operandValue a) (operandValue b)) ⌝ }
+    ensures { λ r. ⌜ outcome r ≡ rounded task (sum (operandValue a) (operandValue b)) ⌝ }
 {
     if a.exponent < b.exponent {
         return aligned(b, a, task);

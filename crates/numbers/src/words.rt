@@ -35,7 +35,7 @@ pub(crate) fn product(a: u64, b: u64) -> Words
 }
 
 // a + b, where the sum has 128 bits.
-pub(crate) fn total(a: Words, b: Words) -> Words
+pub(crate) fn sum(a: Words, b: Words) -> Words
     requires { ⌜ wide (a .high) (a .low) + wide (b .high) (b .low) < 2 ^ 128 ⌝ }
     ensures { λ r. ⌜ wide (r .high) (r .low) ≡ wide (a .high) (a .low) + wide (b .high) (b .low) ⌝ }
 {
@@ -51,7 +51,7 @@ pub(crate) fn total(a: Words, b: Words) -> Words
 }
 
 // a − b, where b is no larger.
-pub(crate) fn remainder(a: Words, b: Words) -> Words
+pub(crate) fn difference(a: Words, b: Words) -> Words
     requires { ⌜ wide (b .high) (b .low) ≤ wide (a .high) (a .low) ⌝ }
     ensures { λ r. ⌜ wide (r .high) (r .low) + wide (b .high) (b .low) ≡ wide (a .high) (a .low) ⌝ }
 {

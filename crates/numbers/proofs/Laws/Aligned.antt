@@ -1,23 +1,23 @@
 -- Two aligned operands: the shifted smaller one leaves room in two words, a rest means that they stand far apart, and the sum or the difference is
 -- rounded as its cell says.
-use mathlib.Core.Path.{_≡_, refl, sym, ap, ap₂, _∙_}
+use mathlib.Core.Path.{_≡_, refl, sym, ap, _∙_}
 use mathlib.Core.Bool.{Bool, true, false, not, cond}
 use Prim.Native.Nat.{ℕ, zero, suc, _+_, _-_, _*_, _/_, _%_, _^_, _≤_, _<_}
 use native.Mathlib.Decide.{decLe}
-use native.Mathlib.Nat.{le-of-lt, le-trans, lt-of-not-le, lt-of-lt-of-le, lt-of-le-of-lt, lt-of-mul-lt-mul-right, le-of-mul-le-mul-right, mul-assoc, mul-le-mul-left, mul-le-mul-right, mul-lt-mul-of-pos-right, div-le-self}
+use native.Mathlib.Nat.{le-of-lt, le-trans, lt-of-not-le, lt-of-mul-lt-mul-right, le-of-mul-le-mul-right, mul-assoc, mul-le-mul-left, mul-le-mul-right, div-le-self}
 use native.Mathlib.Omega.{arith}
 use lib.Dec.{ltb, lit≤}
-use lib.IntN.{ℤ}
 use lib.Pow.{pow-add, pow-pos, pow-mono}
-use Rattle.numbers.specs.Fraction.{Fraction, IsFraction, Equal, signed, sum}
-use Rattle.numbers.specs.Answer.{precisionOf, rounded}
+use Rattle.numbers.specs.Rounding.{precisionOf}
+use Rattle.numbers.specs.Fraction.{IsFraction, signed, sum}
+use Rattle.numbers.specs.Answer.{rounded}
 use Rattle.numbers.specs.Grid.{InCell, digit}
 use Rattle.numbers.specs.Words.{lastBit, scaledValue, oddOf, operandValue, IsOperand, IsAligned}
 use Rattle.numbers.specs.declared.operand.Operand.{Operand}
-use Rattle.numbers.specs.declared.rounding.Task.{Task}
+use Rattle.numbers.specs.declared.task.Task.{Task}
 use Rattle.numbers.proofs.Laws.Fractions.{fraction, same-sum, other-sum, sum-fraction}
 use Rattle.numbers.proofs.Laws.Sum.{cell-rounds, cell-added, cell-subtracted, raised-power, shifted-cell}
-use Rattle.numbers.proofs.Laws.Value.{cell-of, value-alone}
+use Rattle.numbers.proofs.Laws.Value.{cell-of, same-outcome}
 
 -- ---- over plain numbers: k for 2^63, w for 2^64, g for the shift's power
 
@@ -88,7 +88,7 @@ module _ (large small : Operand) (h : IsAligned large small) (task : Task) (n0 :
       (h .normal) (h .larger) c l)
 
   grid-cell : InCell rest (small .significand * 2 ^ (small .exponent + 65598)) Y (2 ^ (large .exponent + 65535))
-  grid-cell = shifted-cell rest (small .significand) (small .exponent) (large .exponent) Y (h .later) cell
+  grid-cell = shifted-cell rest (small .significand) (small .exponent) (large .exponent) Y (h .lower) cell
 
   pub added-rounds : small .negative ≡ large .negative
       → rounded task (scaledValue (large .negative) (cond rest (oddOf (large .significand * 2 ^ 63 + Y)) (large .significand * 2 ^ 63 + Y)) (large .exponent + 65535)) ≡ rounded task (sum (operandValue large) (operandValue small))
@@ -100,7 +100,7 @@ module _ (large small : Operand) (h : IsAligned large small) (task : Task) (n0 :
       let B = small .significand * 2 ^ (small .exponent + 65598) in
       sym (cell-rounds task s (A + B) F (large .exponent + 65535) rest n0 (fine F (omega arith)) (rw (raised-power (large .significand) (large .exponent)) (cell-added rest (large .significand * 2 ^ 63) B Y (2 ^ (large .exponent + 65535)) grid-cell)))
       ∙ rw sign
-      (sym (value-alone task (sum (fraction (signed s A) (2 ^ lastBit)) (fraction (signed s B) (2 ^ lastBit))) (fraction (signed s (A + B)) (2 ^ lastBit))
+      (sym (same-outcome task (sum (fraction (signed s A) (2 ^ lastBit)) (fraction (signed s B) (2 ^ lastBit))) (fraction (signed s (A + B)) (2 ^ lastBit))
       (sum-fraction (fraction (signed s A) (2 ^ lastBit)) (fraction (signed s B) (2 ^ lastBit)) (pow-pos lastBit) (pow-pos lastBit)) (pow-pos lastBit) n0 (same-sum s A B (2 ^ lastBit))))
 
   pub subtracted-rounds : small .negative ≡ not (large .negative) → (m : ℕ) → m + digit rest + Y ≡ large .significand * 2 ^ 63
@@ -116,7 +116,7 @@ module _ (large small : Operand) (h : IsAligned large small) (task : Task) (n0 :
       let less : B ≤ L * G = under rest B Y G L grid-cell borrow-fits in
       sym (cell-rounds task s (A - B) m (large .exponent + 65535) rest n0 (fine m (flag rest m Y L e)) (rw on-grid (cell-subtracted rest L B Y G m less e grid-cell)))
       ∙ rw sign
-      (sym (value-alone task (sum (fraction (signed s A) (2 ^ lastBit)) (fraction (signed (not s) B) (2 ^ lastBit))) (fraction (signed s (A - B)) (2 ^ lastBit))
+      (sym (same-outcome task (sum (fraction (signed s A) (2 ^ lastBit)) (fraction (signed (not s) B) (2 ^ lastBit))) (fraction (signed s (A - B)) (2 ^ lastBit))
       (sum-fraction (fraction (signed s A) (2 ^ lastBit)) (fraction (signed (not s) B) (2 ^ lastBit)) (pow-pos lastBit) (pow-pos lastBit)) (pow-pos lastBit) n0 (other-sum s A B (2 ^ lastBit) (rw on-grid less))))
 
 -- ---- which operand is the larger
@@ -128,7 +128,7 @@ module _ (large small : Operand) (l : IsOperand large) (s : IsOperand small) whe
       let twice : 2 * large .significand ≤ large .significand * 2 ^ (large .exponent - small .exponent) = omega (arith, mul-le-mul-left (large .significand) (pow-mono {i = 1} (one-below h))) in
       record {
         biased = l .biased;
-        later = le-of-lt h;
+        lower = le-of-lt h;
         large-word = l .word;
         small-word = s .word;
         larger = let w = s .word in omega arith;
@@ -141,7 +141,7 @@ module _ (large small : Operand) (l : IsOperand large) (s : IsOperand small) whe
   pub by-significand : small .exponent ≤ large .exponent → small .significand ≤ large .significand → IsAligned large small
   by-significand h k = record {
     biased = l .biased;
-    later = h;
+    lower = h;
     large-word = l .word;
     small-word = s .word;
     larger = omega (arith, mul-le-mul-left (large .significand) (pow-pos (large .exponent - small .exponent)));

@@ -1,6 +1,6 @@
 -- What may stand for a value when it is rounded: the middle of its cell (the cell law), and any value that no multiple of the grid tells from it.
-use mathlib.Core.Path.{_≡_, refl, sym, ap, ap₂, _∙_, subst}
-use mathlib.Core.Bool.{Bool, true, false, not, cond}
+use mathlib.Core.Path.{_≡_, refl, sym, ap, _∙_}
+use mathlib.Core.Bool.{Bool, true, false}
 use mathlib.Core.Logic.{_↔_}
 use Prim.Native.Nat.{ℕ, zero, suc, zero-le, _+_, _*_, _/_, _%_, _^_, _≤_, _<_}
 use native.Mathlib.Omega.{arith}
@@ -11,9 +11,7 @@ use lib.Pow.{pow-pos}
 use lib.Signed.{_≤ℤ_}
 use Rattle.numbers.specs.Fraction.{Fraction, IsFraction, Equal, AtMost, signed}
 use Rattle.numbers.specs.Rounding.{isNegative}
-use Rattle.numbers.specs.Answer.{precisionOf, rounded}
-use Rattle.numbers.specs.Grid.{InCell, HasCell, digit, cellValue, multiple, Alike}
-use Rattle.numbers.specs.declared.rounding.Task.{Task}
+use Rattle.numbers.specs.Grid.{InCell, HasCell, cellValue, multiple, Alike, RoundedAlike}
 use Rattle.numbers.proofs.Laws.Cell.{same-cell}
 use Rattle.numbers.proofs.Laws.Ratio.{Ordered}
 use Rattle.numbers.proofs.Laws.Signs.{abs-signed, negative-signed, signed-abs, signed-times, signed-order, signed-ordered}
@@ -52,16 +50,16 @@ middle-sign : (s : Bool) (i o F : ℕ) → isNegative (cellValue s i o F true .n
 unfolding cellValue
 middle-sign s i o F = negative-signed s ((2 * F + 1) * 2 ^ i) (omega (arith, pow-pos i, mul-le-mul-right (2 ^ i) (let l : 1 ≤ 2 * F + 1 = omega arith in l)))
 
--- a value and the middle, or the lower end, of its cell are rounded alike, where the cell has more bits than the task or nothing is left
-pub cell-law : (task : Task) (x : Fraction) (i o F : ℕ) (rest : Bool) → IsFraction x → 1 ≤ precisionOf task → (rest ≡ true → 2 ^ precisionOf task ≤ F) → HasCell x i o F rest
-    → rounded task x ≡ rounded task (cellValue (isNegative (x .numerator)) i o F rest)
-cell-law task x i o F false x0 n0 fine h =
+-- a value and the middle, or the lower end, of its cell are rounded alike, where the cell has more than n bits or nothing is left
+pub cell-law : (n : ℕ) (x : Fraction) (i o F : ℕ) (rest : Bool) → 1 ≤ n → IsFraction x → (rest ≡ true → 2 ^ n ≤ F) → HasCell x i o F rest
+    → RoundedAlike n x (cellValue (isNegative (x .numerator)) i o F rest)
+cell-law n x i o F false n0 x0 fine h =
     let s = isNegative (x .numerator) in
-    value-alone task x (cellValue s i o F false) x0 (value0 s i o F false) n0 (lower-end x i o F h)
-cell-law task x i o F true x0 n0 fine h =
+    value-alone n x (cellValue s i o F false) n0 x0 (value0 s i o F false) (lower-end x i o F h)
+cell-law n x i o F true n0 x0 fine h =
     let s = isNegative (x .numerator) in
     let y = cellValue s i o F true in
-    same-cell x y true i o F x0 (value0 s i o F true) (sym (middle-sign s i o F)) (opened x i o F true h) (opened y i o F true (middle s i o F)) task n0 (fine refl)
+    same-cell x y true i o F x0 (value0 s i o F true) (sym (middle-sign s i o F)) (opened x i o F true h) (opened y i o F true (middle s i o F)) n n0 (fine refl)
 
 -- ---- alike
 
@@ -127,21 +125,21 @@ alike-sign (negsuc a) (pos b) c d i o x0 r =
     absurd (not-below (suc a * 2 ^ o) (0 * 2 ^ i * c) (mul-le-mul x0 (pow-pos o)) (r (pos 0) .0 .1 (record { le = le→leb (0 * 2 ^ i * d) (b * 2 ^ o) (omega arith) })))
 
 -- Two values that no multiple of a grid tells apart are rounded alike, where the grid has more than n bits below the first one's top bit.
-pub alike-rounds : (task : Task) (x y : Fraction) (i o : ℕ) → IsFraction x → IsFraction y → 1 ≤ precisionOf task
-    → 2 ^ precisionOf task * (x .denominator * 2 ^ i) ≤ natAbs (x .numerator) * 2 ^ o → Alike i o x y → rounded task x ≡ rounded task y
+pub alike-rounds : (n : ℕ) (x y : Fraction) (i o : ℕ) → 1 ≤ n → IsFraction x → IsFraction y
+    → 2 ^ n * (x .denominator * 2 ^ i) ≤ natAbs (x .numerator) * 2 ^ o → Alike i o x y → RoundedAlike n x y
 unfolding IsFraction
-alike-rounds task x y i o x0 y0 n0 fine alike =
+alike-rounds n x y i o n0 x0 y0 fine alike =
     let X = natAbs (x .numerator) * 2 ^ o in
     let u = x .denominator * 2 ^ i in
     same-cell x y (ltb 0 (X % u)) i o (X / u) x0 y0 sign (cell-of X u u0)
     (alike-cell (isNegative (x .numerator)) (natAbs (x .numerator)) (natAbs (y .numerator)) (x .denominator) (y .denominator) i o spelled (ltb 0 (X % u)) (X / u) (cell-of X u u0))
-    task n0 (le-div-iff-mul-le u0 .1 fine)
+    n n0 (le-div-iff-mul-le u0 .1 fine)
   where
     u0 : 0 < x .denominator * 2 ^ i
     u0 = mul-le-mul x0 (pow-pos i)
 
     X0 : 0 < natAbs (x .numerator)
-    X0 = lt-of-mul-lt-mul-right (2 ^ o) (lt-of-lt-of-le (omega (arith, mul-le-mul (pow-pos (precisionOf task)) u0)) fine)
+    X0 = lt-of-mul-lt-mul-right (2 ^ o) (lt-of-lt-of-le (omega (arith, mul-le-mul (pow-pos n) u0)) fine)
 
     sign : isNegative (x .numerator) ≡ isNegative (y .numerator)
     sign = alike-sign (x .numerator) (y .numerator) (x .denominator) (y .denominator) i o X0 alike

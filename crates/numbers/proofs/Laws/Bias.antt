@@ -1,17 +1,16 @@
 -- A working exponent and its biased form, which is a natural number: e is i - o for naturals i and o, and one test of i and o says whether it is working.
 use mathlib.Core.Path.{_≡_, refl, sym, ap, _∙_}
-use mathlib.Core.Bool.{Bool, true, false, cond, and-eq-true-iff}
-use Prim.Native.Nat.{ℕ, zero, suc, _+_, _-_, _≤_, _<_}
+use mathlib.Core.Bool.{true, false, and-eq-true-iff}
+use Prim.Native.Nat.{ℕ, suc, _+_, _-_, _≤_, _<_}
 use native.Mathlib.Decide.{decLe}
 use native.Mathlib.Nat.{lt-of-not-le}
 use native.Mathlib.Omega.{arith}
 use lib.Dec.{leb}
 use lib.Ieee.{minus}
-use lib.IntN.{ℤ, pos, negsuc, subℕ, sucℤ, _+ℤ_, _-ℤ_}
-use lib.Signed.{leZ, mag}
+use lib.IntN.{ℤ, pos, negsuc, subℕ, _+ℤ_, _-ℤ_}
+use lib.Signed.{mag}
 use borrow.Author.Tests.{leb-true, le-leb, lt-leb, le-ltb, lt-ltb}
 use Rattle.numbers.specs.Number.{isBetween, isWorkingExponent}
-use Rattle.numbers.proofs.Laws.Exponent.{minus-same}
 
 -- i - o where i is no less, and where it is less
 pub minus-down : (i o : ℕ) → o ≤ i → minus i o ≡ pos (i - o)

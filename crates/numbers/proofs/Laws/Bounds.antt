@@ -11,12 +11,12 @@ use lib.Pow.{pow-pos}
 use lib.Ieee.{up, down}
 use lib.Ieee.Fits.{up-pos, down-pos}
 use borrow.Author.Tests.{eqb-true, eqb-false, ne-eqb}
-use Rattle.numbers.specs.Fraction.{Fraction, IsFraction, Equal, AtMost, value, difference, signed}
-use Rattle.numbers.specs.Rounding.{exponentOf, scaledTop, scaledBottom, placed, roundedAt, isNegative, round, hasBits}
-use Rattle.numbers.specs.Grid.{magnitude, times, Below, unitOf}
+use Rattle.numbers.specs.Fraction.{Fraction, IsFraction, Equal, AtMost, value, difference, signed, magnitude, times, Below}
+use Rattle.numbers.specs.Rounding.{exponentOf, scaledNumerator, scaledDenominator, placed, roundedAt, isNegative, round, hasAtMostBits}
+use Rattle.numbers.specs.Grid.{unitOf}
 use Rattle.numbers.specs.declared.number.Number.the-variants.{Finite}
-use Rattle.numbers.specs.declared.rounding.Mode.{Mode}
-use Rattle.numbers.specs.declared.rounding.Mode.the-variants.{Trunc, Away, Near, Sticky, Up, Down}
+use Rattle.numbers.specs.declared.task.Mode.{Mode}
+use Rattle.numbers.specs.declared.task.Mode.the-variants.{Trunc, Away, Near, Sticky, Up, Down}
 use Rattle.numbers.proofs.Laws.Powers.{power-twice, word-parts}
 use Rattle.numbers.proofs.Laws.Ratio.{Ratio, gap, ratio-swap, ratio-below, ratio-order, ratio-same, ratio-gap}
 use Rattle.numbers.proofs.Laws.Signs.{abs-signed, negative-signed, signed-order}
@@ -37,7 +37,7 @@ below-part g p f k a b d p0 b0 l h = lt-of-mul-lt-mul-right (p * f) (omega (arit
 
 module _ (x : Fraction) (n : ℕ) (x0 : IsFraction x) (n0 : 1 ≤ n) (n1 : n ≤ 64) where
   bottom0 : 0 < bottom x
-  unfolding scaledBottom IsFraction
+  unfolding scaledDenominator IsFraction
   bottom0 = mul-pos x0 (up-pos (exponent x))
 
   -- trunc goes no further from zero, away no nearer to it
@@ -66,14 +66,14 @@ module _ (x : Fraction) (n : ℕ) (x0 : IsFraction x) (n0 : 1 ≤ n) (n1 : n ≤
 
   -- near misses by at most half a unit
   pub near-half : AtMost (times 2 (magnitude (difference (value (round Near n x)) x))) (unitOf n x)
-  unfolding AtMost times magnitude unitOf difference scaledBottom
+  unfolding AtMost times magnitude unitOf difference scaledDenominator
   near-half =
       rw (miss Near n x x0 n0 n1)
       (leZ-yes (le→leb _ _ (half-unit (x .denominator) (up (exponent x)) (round-ratio Near n x x0 n0 n1) (whole-near (top n x) (bottom x) bottom0 (isNegative (x .numerator))))))
 
   -- every mode misses by less than a unit, and a unit is at most x / 2^(n − 1)
   missed : (mode : Mode) → natAbs (difference (value (round mode n x)) x .numerator) * (2 ^ (n - 1) * down (exponent x)) < up (exponent x) * (value (round mode n x) .denominator * x .denominator)
-  unfolding scaledBottom IsFraction
+  unfolding scaledDenominator IsFraction
   missed mode =
       rw (miss mode n x x0 n0 n1)
       (below-unit (x .denominator) (up (exponent x)) (round-ratio mode n x x0 n0 n1) (value-fraction (round mode n x))
@@ -99,9 +99,9 @@ module _ (x : Fraction) (n : ℕ) (x0 : IsFraction x) (n0 : 1 ≤ n) (n1 : n ≤
       (value (round mode n x) .denominator) (pow-pos (n - 1)) x0 (missed mode) (unit nz)))
 
   -- sticky gives an odd whole number where there was a fraction
-  pub sticky-odd : 0 < natAbs (x .numerator) → hasBits n (natAbs (x .numerator)) (x .denominator) ≡ false
+  pub sticky-odd : 0 < natAbs (x .numerator) → hasAtMostBits n (natAbs (x .numerator)) (x .denominator) ≡ false
       → (q : ℕ) × (round Sticky n x ≡ Finite (isNegative (x .numerator)) (exponentOf (natAbs (x .numerator)) (x .denominator)) (q * 2 ^ (64 - n))) × (q % 2 ≡ 1)
-  unfolding hasBits round roundedAt placed
+  unfolding hasAtMostBits round roundedAt placed
   sticky-odd nz h =
       (whole Sticky n x, rw (ne-eqb (natAbs (x .numerator)) 0 (λ (z : natAbs (x .numerator) ≡ 0). omega arith), ne-eqb (whole Sticky n x) (2 ^ n) no-carry), odd)
     where
@@ -112,8 +112,8 @@ module _ (x : Fraction) (n : ℕ) (x0 : IsFraction x) (n0 : 1 ≤ n) (n1 : n ≤
       no-carry e = omega (arith, odd, power-twice n n0)
 
   -- an n-bit value is kept by every mode
-  pub kept : (mode : Mode) → hasBits n (natAbs (x .numerator)) (x .denominator) ≡ true → Equal (value (round mode n x)) x
-  unfolding hasBits Equal
+  pub kept : (mode : Mode) → hasAtMostBits n (natAbs (x .numerator)) (x .denominator) ≡ true → Equal (value (round mode n x)) x
+  unfolding hasAtMostBits Equal
   kept mode h =
       after-signed mode n x x0 n0 n1
       ∙ ap (λ (m : ℕ). signed (isNegative (x .numerator)) m)
@@ -123,7 +123,7 @@ module _ (x : Fraction) (n : ℕ) (x0 : IsFraction x) (n0 : 1 ≤ n) (n1 : n ≤
 -- a number of n bits is its own rounding
 pub kept-number : (mode : Mode) (n : ℕ) (negative : Bool) (e : ℤ) (q : ℕ) → 1 ≤ n → n ≤ 64 → 2 ^ (n - 1) ≤ q → q < 2 ^ n
     → round mode n (value (Finite negative e (q * 2 ^ (64 - n)))) ≡ Finite negative e (q * 2 ^ (64 - n))
-unfolding round roundedAt placed value scaledTop scaledBottom
+unfolding round roundedAt placed value scaledNumerator scaledDenominator
 kept-number mode n negative e q n0 n1 low high =
     rw (
       abs-signed negative a,

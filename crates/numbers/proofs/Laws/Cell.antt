@@ -1,27 +1,27 @@
 -- The cell law: what a fraction is rounded to depends only on its sign and on its cell, on any grid of a power of two that is fine enough.
 -- The grid is 2^i / 2^o. The fraction's magnitude a / b lies in the cell F where a × 2^o does on the grid b × 2^i.
-use mathlib.Core.Path.{_≡_, refl, sym, ap, _∙_}
+use mathlib.Core.Path.{_≡_, sym, ap, _∙_}
 use mathlib.Core.Bool.{Bool, true, false, cond}
-use Prim.Native.Nat.{ℕ, zero, suc, _+_, _-_, _*_, _/_, _%_, _^_, _≤_, _<_}
+use Prim.Native.Nat.{ℕ, suc, _+_, _-_, _*_, _%_, _^_, _≤_, _<_}
 use native.Mathlib.Omega.{arith}
-use native.Mathlib.Nat.{le-trans, le-of-eq, le-of-lt, lt-of-lt-of-le, lt-of-le-of-lt, mul-le-mul-right, mul-le-mul-left, mul-lt-mul-of-pos-right, lt-of-mul-lt-mul-right, eq-of-mul-eq-mul-right, pow-succ', mul-le-mul}
-use lib.Dec.{ltb, eqb}
+use native.Mathlib.Nat.{lt-of-lt-of-le, mul-le-mul-right, mul-lt-mul-of-pos-right, lt-of-mul-lt-mul-right, eq-of-mul-eq-mul-right, pow-succ', mul-le-mul}
+use lib.Dec.{eqb}
 use borrow.Author.Tests.{ne-eqb}
 use lib.IntN.{ℤ, natAbs}
-use lib.Pow.{pow-add, pow-pos, pow-mono}
-use lib.Ieee.{size, up, down, minus}
-use lib.Ieee.Digits.{size-lt, size-reaches, minus-val}
+use lib.Pow.{pow-add, pow-pos}
+use lib.Ieee.{up, down, minus}
+use lib.Ieee.Digits.{minus-val}
 use lib.Ieee.Fits.{up-pos, down-pos}
 use Rattle.numbers.specs.Number.{isWorkingExponent}
-use Rattle.numbers.specs.Fraction.{Fraction, IsFraction, Equal}
-use Rattle.numbers.specs.Rounding.{exponentOf, scaledTop, scaledBottom, wholeOf, placed, roundedAt, isNegative, round, hasBits}
-use Rattle.numbers.specs.Answer.{Outcome, given, refused, precisionOf, rounded, claimed, checked}
-use Rattle.numbers.specs.Grid.{InCell, digit}
+use Rattle.numbers.specs.Fraction.{Fraction, IsFraction}
+use Rattle.numbers.specs.Rounding.{exponentOf, scaledNumerator, scaledDenominator, wholeOf, placed, roundedAt, isNegative, round, hasAtMostBits, precisionOf}
+use Rattle.numbers.specs.Answer.{given, refused, rounded, claimed, checked}
+use Rattle.numbers.specs.Grid.{InCell, digit, RoundedAlike}
 use Rattle.numbers.specs.declared.number.Number.{Number}
-use Rattle.numbers.specs.declared.rounding.Mode.{Mode}
-use Rattle.numbers.specs.declared.rounding.Mode.the-variants.{Trunc}
-use Rattle.numbers.specs.declared.rounding.Task.{Task}
-use Rattle.numbers.specs.declared.rounding.Task.the-variants.{Round, Exact}
+use Rattle.numbers.specs.declared.task.Mode.{Mode}
+use Rattle.numbers.specs.declared.task.Mode.the-variants.{Trunc}
+use Rattle.numbers.specs.declared.task.Task.{Task}
+use Rattle.numbers.specs.declared.task.Task.the-variants.{Round, Exact}
 use Rattle.numbers.proofs.Laws.Exponent.{exponent-unique}
 use Rattle.numbers.proofs.Laws.Powers.{power-parts, top-bit, below-top}
 use Rattle.numbers.proofs.Laws.Tests.{zero-same}
@@ -57,30 +57,30 @@ module _ (rest : Bool) (a b i o F t n : ℕ) (b0 : 0 < b) (n0 : 1 ≤ n) (fine :
   pub exponent-cell : exponentOf a b ≡ minus (t + i) o
   exponent-cell = exponent-unique a b (t + i) o above-zero b0 low high
 
-  scaled : (e : ℤ) → b * up e * 2 ^ o ≡ b * 2 ^ (t + i) * down e → InCell rest (scaledTop n e a * (2 * 2 ^ (t - n))) F (scaledBottom e b)
-  unfolding scaledTop scaledBottom
+  scaled : (e : ℤ) → b * up e * 2 ^ o ≡ b * 2 ^ (t + i) * down e → InCell rest (scaledNumerator n e a * (2 * 2 ^ (t - n))) F (scaledDenominator e b)
+  unfolding scaledNumerator scaledDenominator
   scaled e k =
       cell-ratio rest (a * 2 ^ o) F (b * 2 ^ i) _ _ (2 ^ t * down e) (2 ^ o) (mul-le-mul (pow-pos t) (down-pos e)) (pow-pos o)
       (omega (arith, ap (λ (m : ℕ). a * 2 ^ o * down e * m) (power-parts n t n0 fine)))
       (omega (arith, k, ap (λ (m : ℕ). b * down e * m) (pow-add 2 t i)))
       h
 
-  bottom0 : (e : ℤ) → 0 < scaledBottom e b
-  unfolding scaledBottom
+  bottom0 : (e : ℤ) → 0 < scaledDenominator e b
+  unfolding scaledDenominator
   bottom0 e = mul-le-mul b0 (up-pos e)
 
   -- the whole number and the claim, each from the cell
-  pub whole-at : (mode : Mode) (negative : Bool) → wholeOf mode negative (scaledTop n (minus (t + i) o) a) (scaledBottom (minus (t + i) o) b) ≡ wholeOf mode negative (2 * F + digit rest) (2 * (2 * 2 ^ (t - n)))
+  pub whole-at : (mode : Mode) (negative : Bool) → wholeOf mode negative (scaledNumerator n (minus (t + i) o) a) (scaledDenominator (minus (t + i) o) b) ≡ wholeOf mode negative (2 * F + digit rest) (2 * (2 * 2 ^ (t - n)))
   whole-at mode negative =
-      whole-cell rest (scaledTop n (minus (t + i) o) a) (scaledBottom (minus (t + i) o) b) F (2 ^ (t - n)) (bottom0 (minus (t + i) o)) (pow-pos (t - n))
+      whole-cell rest (scaledNumerator n (minus (t + i) o) a) (scaledDenominator (minus (t + i) o) b) F (2 ^ (t - n)) (bottom0 (minus (t + i) o)) (pow-pos (t - n))
       (scaled (minus (t + i) o) (minus-val b (t + i) o)) mode negative
 
-  pub bits-at : hasBits n a b ≡ eqb ((2 * F + digit rest) % (2 * (2 * 2 ^ (t - n)))) 0
-  unfolding hasBits
+  pub bits-at : hasAtMostBits n a b ≡ eqb ((2 * F + digit rest) % (2 * (2 * 2 ^ (t - n)))) 0
+  unfolding hasAtMostBits
   bits-at =
       rw exponent-cell
-      (zero-same (scaledTop n (minus (t + i) o) a % scaledBottom (minus (t + i) o) b) ((2 * F + digit rest) % (2 * (2 * 2 ^ (t - n))))
-      (fraction-cell rest (scaledTop n (minus (t + i) o) a) (scaledBottom (minus (t + i) o) b) F (2 ^ (t - n)) (bottom0 (minus (t + i) o)) (pow-pos (t - n))
+      (zero-same (scaledNumerator n (minus (t + i) o) a % scaledDenominator (minus (t + i) o) b) ((2 * F + digit rest) % (2 * (2 * 2 ^ (t - n))))
+      (fraction-cell rest (scaledNumerator n (minus (t + i) o) a) (scaledDenominator (minus (t + i) o) b) F (2 ^ (t - n)) (bottom0 (minus (t + i) o)) (pow-pos (t - n))
       (scaled (minus (t + i) o) (minus-val b (t + i) o))))
 
 -- a fraction in the cell F, rounded and claimed
@@ -108,10 +108,10 @@ module _ (x : Fraction) (rest : Bool) (i o F t n : ℕ) (b0 : IsFraction x) (n0 
         bits-at rest (natAbs (x .numerator)) (x .denominator) i o F t n b0 n0 fine t0 t1 h,
       )
 
--- Two fractions with one sign in one cell, on a grid of which the cell has more bits than the task, are rounded alike.
+-- Two fractions with one sign in one cell, on a grid of which the cell has more than n bits, are rounded alike to n bits.
 module _ (x y : Fraction) (rest : Bool) (i o F : ℕ) (x0 : IsFraction x) (y0 : IsFraction y) (sign : isNegative (x .numerator) ≡ isNegative (y .numerator))
     (hx : InCell rest (natAbs (x .numerator) * 2 ^ o) F (x .denominator * 2 ^ i)) (hy : InCell rest (natAbs (y .numerator) * 2 ^ o) F (y .denominator * 2 ^ i)) where
-  pub same-round : (mode : Mode) (n : ℕ) → 1 ≤ n → 2 ^ n ≤ F → round mode n x ≡ round mode n y
+  same-round : (mode : Mode) (n : ℕ) → 1 ≤ n → 2 ^ n ≤ F → round mode n x ≡ round mode n y
   same-round mode n n0 fine =
       let b = top-bit F (lt-of-lt-of-le (pow-pos n) fine) in
       let l : n ≤ b .0 = below-top n (b .0) F fine (b .2) in
@@ -119,13 +119,20 @@ module _ (x y : Fraction) (rest : Bool) (i o F : ℕ) (x0 : IsFraction x) (y0 : 
       ∙ ap (λ (s : Bool). placed s (minus (b .0 + i) o) n (wholeOf mode s (2 * F + digit rest) (2 * (2 * 2 ^ (b .0 - n))))) sign
       ∙ sym (round-cell y rest i o F (b .0) n y0 n0 l (b .1) (b .2) hy mode)
 
-  pub same-cell : (task : Task) → 1 ≤ precisionOf task → 2 ^ precisionOf task ≤ F → rounded task x ≡ rounded task y
-  unfolding rounded precisionOf
-  same-cell (Round r) n0 fine = ap checked (same-round (r .mode) (r .precision) n0 fine)
-  same-cell (Exact c) n0 fine =
-      let n = c .precision in
+  pub same-cell : (n : ℕ) → 1 ≤ n → 2 ^ n ≤ F → RoundedAlike n x y
+  same-cell n n0 fine =
       let b = top-bit F (lt-of-lt-of-le (pow-pos n) fine) in
       let l : n ≤ b .0 = below-top n (b .0) F fine (b .2) in
-      claim-cell x rest i o F (b .0) n x0 n0 l (b .1) (b .2) hx
-      ∙ ap (λ (z : Number). cond (isWorkingExponent (minus (b .0 + i) o)) (cond (eqb ((2 * F + digit rest) % (2 * (2 * 2 ^ (b .0 - n)))) 0) (given z) (refused 8)) (refused 7)) (same-round Trunc n n0 fine)
-      ∙ sym (claim-cell y rest i o F (b .0) n y0 n0 l (b .1) (b .2) hy)
+      record {
+        rounds = λ mode. same-round mode n n0 fine;
+        claims =
+            claim-cell x rest i o F (b .0) n x0 n0 l (b .1) (b .2) hx
+            ∙ ap (λ (z : Number). cond (isWorkingExponent (minus (b .0 + i) o)) (cond (eqb ((2 * F + digit rest) % (2 * (2 * 2 ^ (b .0 - n)))) 0) (given z) (refused 8)) (refused 7)) (same-round Trunc n n0 fine)
+            ∙ sym (claim-cell y rest i o F (b .0) n y0 n0 l (b .1) (b .2) hy);
+      }
+
+-- and so every task has one outcome
+pub one-outcome : (task : Task) (x y : Fraction) → RoundedAlike (precisionOf task) x y → rounded task x ≡ rounded task y
+unfolding rounded precisionOf
+one-outcome (Round r) x y h = ap checked (h .rounds (r .mode))
+one-outcome (Exact c) x y h = h .claims

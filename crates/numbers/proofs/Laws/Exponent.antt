@@ -1,18 +1,18 @@
 -- The exponent of a fraction is the one that its two inequalities name. Exponents are written i - o, with naturals i and o, so that
 -- everything is decided among the naturals.
-use mathlib.Core.Path.{_≡_, refl, ap, sym, _∙_, subst}
+use mathlib.Core.Path.{_≡_, refl, ap, sym, _∙_}
 use mathlib.Core.Bool.{Bool, true, false, not, cond}
 use mathlib.Core.Logic.{_⊎_, inl, inr, ⊎-elim}
 use Prim.Native.Nat.{ℕ, zero, suc, _+_, _*_, _-_, _^_, _≤_, _<_}
 use native.Mathlib.Omega.{arith}
-use native.Mathlib.Nat.{mul-le-mul-left, mul-le-mul-right, mul-lt-mul-of-pos-right, mul-lt-mul-of-pos-left, mul-le-mul, le-of-lt, lt-of-lt-of-le, lt-of-le-of-lt, lt-of-mul-lt-mul-right, le-of-mul-le-mul-right, not-le-of-lt, lt-of-not-le, pow-succ'}
+use native.Mathlib.Nat.{mul-le-mul-right, mul-lt-mul-of-pos-right, le-of-lt, lt-of-lt-of-le, lt-of-le-of-lt, lt-of-mul-lt-mul-right, le-of-mul-le-mul-right, lt-of-not-le, pow-succ'}
 use native.Mathlib.Decide.{decLe}
 use lib.IntN.{ℤ, pos, negsuc, sucℤ, predℤ, suc-pred}
 use lib.Dec.{T, leb, leb→le, nleb→lt, leb·zero, leb·suc-zero}
-use lib.Pow.{pow-add, pow-pos, pow-mono, pow-lt}
+use lib.Pow.{pow-add, pow-pos}
 use lib.Ieee.{size, up, down, minus}
 use lib.Ieee.Digits.{size-lt, size-reaches, minus-val}
-use lib.Ieee.Fits.{up-pos, down-pos}
+use lib.Ieee.Fits.{down-pos}
 use borrow.Author.Tests.{le-leb, lt-leb}
 use Rattle.numbers.proofs.Laws.Powers.{pow-below, top-bit}
 use Rattle.numbers.specs.Rounding.{exponentOf, settled}

@@ -1,13 +1,13 @@
 -- The exact sum and product of fractions depend on their values alone, and what they are over one denominator.
-use mathlib.Core.Path.{_≡_, refl, sym, ap, ap₂, _∙_}
+use mathlib.Core.Path.{_≡_, sym, ap, ap₂, _∙_}
 use mathlib.Core.Bool.{Bool, true, false, not, Bool·not-not}
-use Prim.Native.Nat.{ℕ, zero, suc, _+_, _-_, _*_, _≤_, _<_}
+use Prim.Native.Nat.{ℕ, _+_, _-_, _*_, _≤_}
 use native.Mathlib.Decide.{decLe}
-use native.Mathlib.Nat.{le-of-lt, lt-of-not-le, add-mul, mul-comm, mul-assoc, mul-right-comm, mul-sub, mul-le-mul-right, mul-pos}
+use native.Mathlib.Nat.{le-of-lt, lt-of-not-le, add-mul, mul-comm, mul-assoc, mul-sub, mul-le-mul-right, mul-pos}
 use native.Mathlib.Omega.{arith}
 use lib.Ieee.{unlike}
-use lib.IntN.{ℤ, pos, negsuc, negℤ, natAbs, +ℤ-comm, _+ℤ_, _-ℤ_, _*ℤ_}
-use Rattle.numbers.specs.Fraction.{Fraction, IsFraction, Equal, signed, sum, difference, product}
+use lib.IntN.{ℤ, pos, natAbs, +ℤ-comm, _+ℤ_, _*ℤ_}
+use Rattle.numbers.specs.Fraction.{Fraction, IsFraction, Equal, signed, sum, product}
 use Rattle.numbers.specs.Rounding.{isNegative}
 use Rattle.numbers.proofs.Laws.Signs.{signed-abs, signed-times, negative-product, same-sign, other-sign}
 use Rattle.numbers.proofs.Laws.Value.{equal-magnitudes, equal-signs}

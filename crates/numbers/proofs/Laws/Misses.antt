@@ -8,8 +8,8 @@ use lib.Dec.{T, ltb, eqb, ltb→lt, nltb→le, eqb→eq}
 use lib.Ieee.Fits.{and-l}
 use borrow.Author.Tests.{lt-ltb, eqb-true, eqb-false}
 use Rattle.numbers.specs.Rounding.{goesUp, wholeOf}
-use Rattle.numbers.specs.declared.rounding.Mode.{Mode}
-use Rattle.numbers.specs.declared.rounding.Mode.the-variants.{Trunc, Away, Near, Sticky, Up, Down}
+use Rattle.numbers.specs.declared.task.Mode.{Mode}
+use Rattle.numbers.specs.declared.task.Mode.the-variants.{Trunc, Away, Near, Sticky, Up, Down}
 use Rattle.numbers.proofs.Laws.Ratio.{gap, Ordered}
 
 -- no mode goes up where there is no fraction

@@ -11,7 +11,7 @@ use lib.Ieee.Digits.{minus-val}
 use lib.IntN.{ℤ, pos, _*ℤ_}
 use lib.Pow.{pow-add, pow-pos}
 use Rattle.numbers.specs.Fraction.{IsFraction, Equal, signed, value, product}
-use Rattle.numbers.specs.Number.{isBetween, isSignificand, isFit, isWorkingExponent, isWorking}
+use Rattle.numbers.specs.Number.{isSignificand, isFit, isWorkingExponent, isWorking}
 use Rattle.numbers.specs.Words.{lastBit, scaledValue, operandValue, IsOperand}
 use Rattle.numbers.specs.declared.number.Number.{Number}
 use Rattle.numbers.specs.declared.number.Number.the-variants.{Zero, Finite}

@@ -11,10 +11,10 @@ use lib.Pow.{pow-pos}
 use lib.Ieee.{up, down}
 use lib.Ieee.Fits.{up-pos, down-pos}
 use Rattle.numbers.specs.Fraction.{Fraction, IsFraction, value, difference, signed}
-use Rattle.numbers.specs.Rounding.{exponentOf, scaledTop, scaledBottom, wholeOf, placed, roundedAt, isNegative, round}
+use Rattle.numbers.specs.Rounding.{exponentOf, scaledNumerator, scaledDenominator, wholeOf, placed, roundedAt, isNegative, round}
 use Rattle.numbers.specs.declared.number.Number.{Number}
 use Rattle.numbers.specs.declared.number.Number.the-variants.{Zero, Finite}
-use Rattle.numbers.specs.declared.rounding.Mode.{Mode}
+use Rattle.numbers.specs.declared.task.Mode.{Mode}
 use Rattle.numbers.proofs.Laws.Powers.{power-twice, word-parts}
 use Rattle.numbers.proofs.Laws.Ratio.{Ratio, gap}
 use Rattle.numbers.proofs.Laws.Signs.{abs-signed, signed-abs, signed-zero, signed-times, abs-difference}
@@ -53,16 +53,16 @@ placed-units s e n q n0 n1 = go (eqb q (2 ^ n)) (eqb→eq q (2 ^ n))
     go false h = finite-units s n e e q (q * 2 ^ (64 - n)) (plain (2 ^ 63) (2 ^ (n - 1)) (2 ^ (64 - n)) q (up e) (down e) (word-parts n n0 n1))
 
 -- zero is made zero, so that the number of units is the whole number there too
-zero-whole : (mode : Mode) (n : ℕ) (s : Bool) (e : ℤ) (a b : ℕ) → 0 < b → a ≡ 0 → wholeOf mode s (scaledTop n e a) (scaledBottom e b) ≡ 0
-unfolding scaledTop scaledBottom
+zero-whole : (mode : Mode) (n : ℕ) (s : Bool) (e : ℤ) (a b : ℕ) → 0 < b → a ≡ 0 → wholeOf mode s (scaledNumerator n e a) (scaledDenominator e b) ≡ 0
+unfolding scaledNumerator scaledDenominator
 zero-whole mode n s e a b b0 h =
     ap (λ (m : ℕ). wholeOf mode s m (b * up e)) (let k : a * 2 ^ (n - 1) * down e ≡ 0 * (b * up e) = rw h (omega arith) in k)
     ∙ whole-exact mode s 0 (b * up e) (mul-pos b0 (up-pos e))
 
 units : (mode : Mode) (n : ℕ) (s : Bool) (e : ℤ) (a b : ℕ) → 0 < b → 1 ≤ n → n ≤ 64
-    → IsUnits (cond (eqb a 0) Zero (roundedAt e mode n s a b)) s n e (wholeOf mode s (scaledTop n e a) (scaledBottom e b))
+    → IsUnits (cond (eqb a 0) Zero (roundedAt e mode n s a b)) s n e (wholeOf mode s (scaledNumerator n e a) (scaledDenominator e b))
 unfolding roundedAt value
-units mode n s e a b b0 n0 n1 = go (eqb a 0) (eqb→eq a 0) (wholeOf mode s (scaledTop n e a) (scaledBottom e b)) (zero-whole mode n s e a b b0)
+units mode n s e a b b0 n0 n1 = go (eqb a 0) (eqb→eq a 0) (wholeOf mode s (scaledNumerator n e a) (scaledDenominator e b)) (zero-whole mode n s e a b b0)
   where
     go : (t : Bool) → (T t → a ≡ 0) → (q : ℕ) → (a ≡ 0 → q ≡ 0) → IsUnits (cond t Zero (placed s e n q)) s n e q
     go true h q k = record { sign = sym (signed-zero s); ratio = rw (k (h tt)) (omega arith) }
@@ -73,10 +73,10 @@ abbrev pub exponent : Fraction → ℤ
 exponent x = exponentOf (natAbs (x .numerator)) (x .denominator)
 
 abbrev pub top : ℕ → Fraction → ℕ
-top n x = scaledTop n (exponent x) (natAbs (x .numerator))
+top n x = scaledNumerator n (exponent x) (natAbs (x .numerator))
 
 abbrev pub bottom : Fraction → ℕ
-bottom x = scaledBottom (exponent x) (x .denominator)
+bottom x = scaledDenominator (exponent x) (x .denominator)
 
 abbrev pub whole : Mode → ℕ → Fraction → ℕ
 whole mode n x = wholeOf mode (isNegative (x .numerator)) (top n x) (bottom x)
@@ -95,7 +95,7 @@ module _ (mode : Mode) (n : ℕ) (x : Fraction) (x0 : IsFraction x) (n0 : 1 ≤ 
 
   -- the rounding is to x as whole × bottom is to top
   pub round-ratio : Ratio (after mode n x) (before mode n x) (2 ^ (n - 1) * down (exponent x)) (whole mode n x * bottom x) (top n x) (value (round mode n x) .denominator)
-  unfolding scaledTop scaledBottom
+  unfolding scaledNumerator scaledDenominator
   round-ratio = record {
     scale = mul-pos (pow-pos (n - 1)) (down-pos (exponent x));
     first = omega (arith, ap (λ (m : ℕ). m * x .denominator) (round-units .ratio));

@@ -1,20 +1,19 @@
 -- A sum of aligned magnitudes: the larger one stands on the grid 2^x, the smaller one in a cell of it, and so does their sum or difference. What lies
 -- in a cell with a rest is rounded as the odd number of the cell is.
 use mathlib.Core.Path.{_≡_, refl, sym, ap, _∙_}
-use mathlib.Core.Bool.{Bool, true, false, not, cond}
-use Prim.Native.Nat.{ℕ, zero, suc, _+_, _-_, _*_, _/_, _%_, _^_, _≤_, _<_}
+use mathlib.Core.Bool.{Bool, true, false, cond}
+use Prim.Native.Nat.{ℕ, zero, suc, _+_, _-_, _*_, _/_, _^_, _≤_, _<_}
 use native.Mathlib.Nat.{mul-assoc, mul-one, lt-of-le-of-lt, mul-le-mul-right, mul-lt-mul-of-pos-right, le-div-iff-mul-le, mul-pos, pow-succ'}
 use native.Mathlib.Omega.{arith}
 use lib.Dec.{lit<}
-use lib.IntN.{natAbs}
 use lib.Pow.{pow-add, pow-pos}
-use Rattle.numbers.specs.Fraction.{Fraction, IsFraction, signed}
-use Rattle.numbers.specs.Rounding.{isNegative}
-use Rattle.numbers.specs.Answer.{precisionOf, rounded}
+use Rattle.numbers.specs.Rounding.{precisionOf}
+use Rattle.numbers.specs.Fraction.{IsFraction, signed}
+use Rattle.numbers.specs.Answer.{rounded}
 use Rattle.numbers.specs.Grid.{InCell, digit}
 use Rattle.numbers.specs.Words.{lastBit, scaledValue, oddOf}
-use Rattle.numbers.specs.declared.rounding.Task.{Task}
-use Rattle.numbers.proofs.Laws.Cell.{cell-ratio, same-cell}
+use Rattle.numbers.specs.declared.task.Task.{Task}
+use Rattle.numbers.proofs.Laws.Cell.{cell-ratio, same-cell, one-outcome}
 use Rattle.numbers.proofs.Laws.Fractions.{fraction}
 use Rattle.numbers.proofs.Laws.Signs.{abs-signed, negative-signed}
 
@@ -35,11 +34,12 @@ pub odd-rounds : (task : Task) (s : Bool) (p F x : ℕ) → 1 ≤ precisionOf ta
     → rounded task (fraction (signed s p) (2 ^ lastBit)) ≡ rounded task (scaledValue s (oddOf F) x)
 unfolding scaledValue oddOf IsFraction
 odd-rounds task s p F x n0 fine h =
-    same-cell (fraction (signed s p) (2 ^ lastBit)) (scaledValue s (oddOf F) x) true (suc x) lastBit (F / 2) (pow-pos lastBit) (pow-pos lastBit)
+    one-outcome task (fraction (signed s p) (2 ^ lastBit)) (scaledValue s (oddOf F) x)
+    (same-cell (fraction (signed s p) (2 ^ lastBit)) (scaledValue s (oddOf F) x) true (suc x) lastBit (F / 2) (pow-pos lastBit) (pow-pos lastBit)
     (negative-signed s p (lt-of-le-of-lt zero≤ (h .0)) ∙ sym (negative-signed s ((F / 2 * 2 + 1) * 2 ^ x) (mul-pos (omega arith) (pow-pos x))))
     (rw (abs-signed s p, pow-succ' 2 x) (wider p F (2 ^ x) (2 ^ lastBit) (pow-pos lastBit) (pow-pos x) (h .0) (h .1)))
     (rw (abs-signed s ((F / 2 * 2 + 1) * 2 ^ x), pow-succ' 2 x) (odd-inside p F (2 ^ x) (2 ^ lastBit) (pow-pos lastBit) (pow-pos x)))
-    task n0 (le-div-iff-mul-le {k = 2} (omega arith) .1 (omega arith))
+    (precisionOf task) n0 (le-div-iff-mul-le {k = 2} (omega arith) .1 (omega arith)))
   where
     zero≤ : {n : ℕ} → 0 ≤ n
     zero≤ {n} = omega arith

@@ -1,6 +1,6 @@
 -- Rounding a magnitude F of 128 bits with its top bit set: its upper n bits are the whole number, and a word and a flag stand for the fraction.
-use mathlib.Core.Path.{_≡_, refl, sym, ap, _∙_}
-use mathlib.Core.Bool.{Bool, true, false, not, _&&_, cond}
+use mathlib.Core.Path.{_≡_, sym, ap, _∙_}
+use mathlib.Core.Bool.{Bool, false, cond}
 use Prim.Native.Nat.{ℕ, zero, suc, _+_, _-_, _*_, _/_, _%_, _^_, _≤_, _<_}
 use native.Mathlib.Omega.{arith}
 use native.Mathlib.Nat.{add-comm, add-zero, le-antisymm, le-of-eq, le-trans, lt-irrefl, lt-of-le-of-lt, lt-of-lt-of-le, mod-eq-of-lt, mul-assoc, mul-comm, mul-one, mul-le-mul, mul-lt-mul-of-pos-right, le-of-mul-le-mul-right, lt-of-mul-lt-mul-right, div-lt-iff-lt-mul, pow-succ'}
@@ -11,15 +11,14 @@ use lib.IntN.{ℤ, natAbs, sucℤ}
 use lib.Pow.{pow-add, pow-pos}
 use borrow.Author.Tests.{eq-eqb, ne-eqb}
 use Rattle.numbers.specs.Number.{isWorkingExponent}
-use Rattle.numbers.specs.Fraction.{Fraction, IsFraction, signed}
+use Rattle.numbers.specs.Fraction.{IsFraction}
 use Rattle.numbers.specs.Rounding.{goesUp, wholeOf, placed, isNegative, round}
 use Rattle.numbers.specs.Answer.{given, refused, claimed}
 use Rattle.numbers.specs.Grid.{InCell, digit}
 use Rattle.numbers.specs.Words.{wide, lastBit, scaledValue}
-use Rattle.numbers.specs.declared.number.Number.{Number}
 use Rattle.numbers.specs.declared.number.Number.the-variants.{Finite}
-use Rattle.numbers.specs.declared.rounding.Mode.{Mode}
-use Rattle.numbers.specs.declared.rounding.Mode.the-variants.{Trunc}
+use Rattle.numbers.specs.declared.task.Mode.{Mode}
+use Rattle.numbers.specs.declared.task.Mode.the-variants.{Trunc}
 use Rattle.numbers.proofs.Laws.Cell.{cell-ratio, round-cell, claim-cell}
 use Rattle.numbers.proofs.Laws.Signs.{abs-signed, negative-signed}
 use Rattle.numbers.proofs.Laws.Tests.{zero-same}

@@ -1,22 +1,22 @@
 -- Rounding depends on the value alone: two equal fractions are rounded alike. They lie in one cell of a grid that is chosen fine enough.
 use mathlib.Core.Path.{_≡_, refl, sym, ap, _∙_}
-use mathlib.Core.Bool.{Bool, true, false}
+use mathlib.Core.Bool.{Bool, true}
 use Prim.Native.Nat.{ℕ, zero, suc, _+_, _*_, _/_, _%_, _^_, _≤_, _<_}
 use native.Mathlib.Omega.{arith}
 use native.Mathlib.Nat.{le-of-lt, le-div-iff-mul-le, mul-le-mul, mul-le-mul-right, mod-lt, div-add-mod', eq-of-mul-eq-mul-right}
 use lib.Dec.{ltb, lit<}
-use lib.IntN.{ℤ, pos, negsuc, negℤ, natAbs, _*ℤ_}
+use lib.IntN.{ℤ, pos, negsuc, natAbs, _*ℤ_}
 use lib.Pow.{pow-add}
 use borrow.Author.Tests.{lt-ltb}
 use Rattle.numbers.specs.Fraction.{Fraction, IsFraction, Equal, signed}
-use Rattle.numbers.specs.Rounding.{wholeOf, isNegative, round}
-use Rattle.numbers.specs.Answer.{Outcome, given, precisionOf, rounded, claimed, checked}
-use Rattle.numbers.specs.Grid.{InCell}
+use Rattle.numbers.specs.Rounding.{wholeOf, isNegative, round, precisionOf}
+use Rattle.numbers.specs.Answer.{given, rounded, claimed, checked}
+use Rattle.numbers.specs.Grid.{InCell, RoundedAlike}
 use Rattle.numbers.specs.declared.number.Number.the-variants.{Zero}
-use Rattle.numbers.specs.declared.rounding.Mode.{Mode}
-use Rattle.numbers.specs.declared.rounding.Task.{Task}
-use Rattle.numbers.specs.declared.rounding.Task.the-variants.{Round, Exact}
-use Rattle.numbers.proofs.Laws.Cell.{cell-ratio, same-cell}
+use Rattle.numbers.specs.declared.task.Mode.{Mode}
+use Rattle.numbers.specs.declared.task.Task.{Task}
+use Rattle.numbers.specs.declared.task.Task.the-variants.{Round, Exact}
+use Rattle.numbers.proofs.Laws.Cell.{cell-ratio, same-cell, one-outcome}
 use Rattle.numbers.proofs.Laws.Signs.{abs-signed, negative-signed}
 use Rattle.numbers.proofs.Laws.Whole.{whole-cell, fraction-cell}
 use Rattle.numbers.proofs.Laws.Powers.{below-power}
@@ -45,6 +45,10 @@ module _ (a b c d : ℕ) (b0 : 0 < b) (d0 : 0 < d) (same : a * d ≡ c * b) wher
       ∙ sym (fraction-cell (ltb 0 (a * (2 * 1) % b)) c d (a * (2 * 1) / b) 1 d0 (lit< tt) one-cell)
 
 -- zero stays zero
+pub zero-alike : (n : ℕ) (x y : Fraction) → natAbs (x .numerator) ≡ 0 → natAbs (y .numerator) ≡ 0 → RoundedAlike n x y
+unfolding round claimed
+zero-alike n x y e f = record { rounds = λ mode. rw (e, f); claims = rw (e, f) }
+
 pub rounded-zero : (task : Task) (x : Fraction) → natAbs (x .numerator) ≡ 0 → rounded task x ≡ given Zero
 unfolding rounded round claimed checked
 rounded-zero (Round r) x e = rw e
@@ -75,23 +79,25 @@ fine-enough a b n a0 b0 =
     le-div-iff-mul-le {k = b * 2 ^ 0} (omega arith) .1
     (omega (arith, ap (λ (m : ℕ). a * m) (pow-add 2 n b), mul-le-mul-right (2 ^ n) (mul-le-mul a0 (le-of-lt (below-power b)))))
 
-pub value-alone : (task : Task) (x y : Fraction) → IsFraction x → IsFraction y → 1 ≤ precisionOf task → Equal x y → rounded task x ≡ rounded task y
+-- equal fractions are rounded alike, to any number of bits
+pub value-alone : (n : ℕ) (x y : Fraction) → 1 ≤ n → IsFraction x → IsFraction y → Equal x y → RoundedAlike n x y
 unfolding IsFraction
-value-alone task x y x0 y0 n0 e = go (natAbs (x .numerator)) refl
+value-alone n x y n0 x0 y0 e = go (natAbs (x .numerator)) refl
   where
     cross : natAbs (x .numerator) * y .denominator ≡ natAbs (y .numerator) * x .denominator
     cross = equal-magnitudes x y e
 
-    go : (a : ℕ) → natAbs (x .numerator) ≡ a → rounded task x ≡ rounded task y
-    go zero k =
-        rounded-zero task x k
-        ∙ sym (rounded-zero task y (eq-of-mul-eq-mul-right (x .denominator) x0 (natAbs (y .numerator)) 0 (omega (arith, cross, ap (λ (m : ℕ). m * y .denominator) k))))
+    go : (a : ℕ) → natAbs (x .numerator) ≡ a → RoundedAlike n x y
+    go zero k = zero-alike n x y k (eq-of-mul-eq-mul-right (x .denominator) x0 (natAbs (y .numerator)) 0 (omega (arith, cross, ap (λ (m : ℕ). m * y .denominator) k)))
     go (suc a) k =
-        let o = precisionOf task + x .denominator in
+        let o = n + x .denominator in
         let X = natAbs (x .numerator) * 2 ^ o in
         let u = x .denominator * 2 ^ 0 in
         let hx : InCell (ltb 0 (X % u)) X (X / u) u = cell-of X u (omega arith) in
         same-cell x y (ltb 0 (X % u)) 0 o (X / u) x0 y0 (equal-signs x y x0 y0 e) hx
         (cell-ratio (ltb 0 (X % u)) X (X / u) u (natAbs (y .numerator) * 2 ^ o) (y .denominator * 2 ^ 0) (y .denominator) (x .denominator) y0 x0
         (omega (arith, ap (λ (m : ℕ). m * 2 ^ o) cross)) (omega arith) hx)
-        task n0 (fine-enough (natAbs (x .numerator)) (x .denominator) (precisionOf task) (omega arith) x0)
+        n n0 (fine-enough (natAbs (x .numerator)) (x .denominator) n (omega arith) x0)
+
+pub same-outcome : (task : Task) (x y : Fraction) → IsFraction x → IsFraction y → 1 ≤ precisionOf task → Equal x y → rounded task x ≡ rounded task y
+same-outcome task x y x0 y0 n0 e = one-outcome task x y (value-alone (precisionOf task) x y n0 x0 y0 e)

@@ -1,16 +1,16 @@
 -- The whole number that a / b is rounded to depends only on the cell of a / b on a grid that divides one half: with F and a flag for the
 -- cell, (2 F + flag) / (2 J) may stand for a / b. J is how many cells a unit has.
-use mathlib.Core.Path.{_≡_, refl, sym, ap, ap₂, _∙_, subst}
-use mathlib.Core.Bool.{Bool, true, false, not, _&&_, _||_, cond}
-use Prim.Native.Nat.{ℕ, zero, suc, _+_, _-_, _*_, _/_, _%_, _≤_, _<_}
+use mathlib.Core.Path.{_≡_, refl, ap, _∙_}
+use mathlib.Core.Bool.{Bool, true, false}
+use Prim.Native.Nat.{ℕ, _+_, _*_, _/_, _%_, _≤_, _<_}
 use native.Mathlib.Omega.{arith}
-use native.Mathlib.Nat.{le-antisymm, le-of-lt, lt-of-le-of-lt, lt-of-lt-of-le, le-of-mul-le-mul-right, lt-of-mul-lt-mul-right, mul-le-mul-right, mul-le-mul-left, mul-lt-mul-of-pos-right, le-div-iff-mul-le, div-mul-le-self, div-add-mod', mod-lt, mul-assoc, mul-comm}
+use native.Mathlib.Nat.{le-antisymm, le-of-lt, le-of-mul-le-mul-right, lt-of-mul-lt-mul-right, mul-le-mul-right, mul-lt-mul-of-pos-right, le-div-iff-mul-le, div-mul-le-self, div-add-mod', mod-lt}
 use lib.Arith.{digits-div, digits-mod}
 use lib.Dec.{ltb, eqb}
 use Rattle.numbers.specs.Rounding.{goesUp, wholeOf}
 use Rattle.numbers.specs.Grid.{InCell, digit}
-use Rattle.numbers.specs.declared.rounding.Mode.{Mode}
-use Rattle.numbers.specs.declared.rounding.Mode.the-variants.{Trunc, Away, Near, Sticky, Up, Down}
+use Rattle.numbers.specs.declared.task.Mode.{Mode}
+use Rattle.numbers.specs.declared.task.Mode.the-variants.{Trunc, Away, Near, Sticky, Up, Down}
 use Rattle.numbers.proofs.Laws.Tests.{ltb-same, eqb-same}
 
 -- a number that lies in the cell F lies between its ends

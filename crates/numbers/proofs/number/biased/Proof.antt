@@ -1,15 +1,12 @@
 -- `numbers::number::biased` meets its contract: a working exponent and 65,535 make a natural number, which fits.
-use mathlib.Core.Path.{_≡_, refl, sym, ap, _∙_, subst}
+use mathlib.Core.Path.{_≡_, ap, _∙_}
 use mathlib.Core.Bool.{true}
 use Prim.Native.Nat.{ℕ, _≤_}
 use native.Mathlib.Omega.{arith}
-use lib.Dec.{T}
-use lib.Ieee.{minus}
-use lib.IntN.{ℤ, pos, natAbs, _+ℤ_}
-use lib.Signed.{nonNeg}
+use lib.IntN.{ℤ, pos, _+ℤ_}
 use mir.Facts.{toZ-ofZ}
 use mir.Syntax.{w32}
-use mir.Val.{Fits, SFits, toZ, ofZ}
+use mir.Val.{SFits, toZ, ofZ}
 use Rattle.numbers.specs.Number.{isWorkingExponent}
 use Rattle.numbers.proofs.Laws.Bias.{biased-working}
 use Rattle.numbers.proofs.number.biased.Statement.{statement}

@@ -1,5 +1,5 @@
 use borrow.Author.Needs.{needs}
-use Rattle.numbers.specs.Number.{isAdmissible}
+use Rattle.numbers.specs.Number.{isAdmissibleExponent, isAdmissible}
 use Rattle.numbers.proofs.number.is_admissible.Statement.{statement}
 use Rattle.numbers.proofs.number.is_admissible.Tie as tie
 use Rattle.numbers.proofs.number.is_admissible.Reads as reads
@@ -12,7 +12,7 @@ is-fit-requires c κs = search needs
 
 -- src/number.rt:36:1
 returns : tie.Need-returns
-unfolding isAdmissible
+unfolding isAdmissible isAdmissibleExponent
 returns c = c .is-fit .ensures
 
 pub is-admissible-spec : {M : Type 1} → statement M

@@ -1,5 +1,5 @@
 -- `numbers::number::is_fit` meets its contract: each way out has the tests of `isFit` behind it.
-use mathlib.Core.Path.{_≡_, refl, sym, ap₂, _∙_}
+use mathlib.Core.Path.{_≡_, sym, ap₂, _∙_}
 use mathlib.Core.Bool.{Bool, true, false, and-true, and-false}
 use Prim.Native.Nat.{ℕ, _^_, _<_}
 use native.Mathlib.Omega.{arith}
@@ -18,20 +18,20 @@ use Rattle.numbers.proofs.number.is_fit.Statement.{statement}
 use Rattle.numbers.proofs.number.is_fit.Tie as tie
 
 module _ (lowest highest : ℤ) (x : Number) where
-  zero-fit : x ≡ Zero → true ≡ isFit lowest highest x
+  zero-fit : x ≡ Zero → true ≡ isFit (isBetween lowest highest) x
   unfolding isFit
   zero-fit e = rw e
 
   module _ (negative : Bool) (e : ℤ) (S : ℕ) (is : x ≡ Finite negative e S) where
-    between : leZ lowest e ≡ true → leZ e highest ≡ true → S < 2 ^ 64 → leb (2 ^ 63) S ≡ isFit lowest highest x
+    between : leZ lowest e ≡ true → leZ e highest ≡ true → S < 2 ^ 64 → leb (2 ^ 63) S ≡ isFit (isBetween lowest highest) x
     unfolding isFit isBetween isSignificand
     between low high fits = rw (is, low, high, lt-ltb S (2 ^ 64) fits) (sym (and-true (leb (2 ^ 63) S)))
 
-    above : leZ e highest ≡ false → false ≡ isFit lowest highest x
+    above : leZ e highest ≡ false → false ≡ isFit (isBetween lowest highest) x
     unfolding isFit isBetween isSignificand
     above high = rw (is, high, and-false (leZ lowest e))
 
-    below : leZ lowest e ≡ false → false ≡ isFit lowest highest x
+    below : leZ lowest e ≡ false → false ≡ isFit (isBetween lowest highest) x
     unfolding isFit isBetween isSignificand
     below low = rw (is, low)
 

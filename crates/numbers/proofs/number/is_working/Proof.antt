@@ -1,5 +1,5 @@
 use borrow.Author.Needs.{needs}
-use Rattle.numbers.specs.Number.{isWorking}
+use Rattle.numbers.specs.Number.{isWorkingExponent, isWorking}
 use Rattle.numbers.proofs.number.is_working.Statement.{statement}
 use Rattle.numbers.proofs.number.is_working.Tie as tie
 use Rattle.numbers.proofs.number.is_working.Reads as reads
@@ -12,7 +12,7 @@ is-fit-requires c κs = search needs
 
 -- src/number.rt:29:1
 returns : tie.Need-returns
-unfolding isWorking
+unfolding isWorking isWorkingExponent
 returns c = c .is-fit .ensures
 
 pub is-working-spec : {M : Type 1} → statement M

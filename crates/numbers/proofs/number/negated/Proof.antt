@@ -1,5 +1,5 @@
 -- `numbers::number::negated` meets its contract, by the number's case.
-use mathlib.Core.Path.{_≡_, sym, ap, _∙_}
+use mathlib.Core.Path.{_≡_}
 use mathlib.Core.Bool.{Bool, not}
 use Prim.Native.Nat.{ℕ}
 use borrow.Author.Needs.{needs}
@@ -7,18 +7,18 @@ use lib.IntN.{ℤ}
 use mir.Facts.{toZ-ofZ}
 use mir.Syntax.{w32}
 use mir.Val.{SFits, toZ, ofZ}
-use Rattle.numbers.specs.Number.{opposite}
+use Rattle.numbers.specs.Number.{negated}
 use Rattle.numbers.specs.declared.number.Number.{Number}
 use Rattle.numbers.specs.declared.number.Number.the-variants.{Zero, Finite}
 use Rattle.numbers.proofs.number.negated.Statement.{statement}
 use Rattle.numbers.proofs.number.negated.Tie as tie
 
-of-zero : (x : Number) → x ≡ Zero → Zero ≡ opposite x
-unfolding opposite
+of-zero : (x : Number) → x ≡ Zero → Zero ≡ negated x
+unfolding negated
 of-zero x e = rw e
 
-of-finite : (x : Number) (s : Bool) (e : ℤ) (S : ℕ) → x ≡ Finite s e S → SFits w32 e → Finite (not s) (toZ w32 (ofZ w32 e)) S ≡ opposite x
-unfolding opposite
+of-finite : (x : Number) (s : Bool) (e : ℤ) (S : ℕ) → x ≡ Finite s e S → SFits w32 e → Finite (not s) (toZ w32 (ofZ w32 e)) S ≡ negated x
+unfolding negated
 of-finite x s e S k fits = rw (k, toZ-ofZ fits)
 
 enum-told : tie.Need-enum-told

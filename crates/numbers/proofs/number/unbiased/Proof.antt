@@ -1,5 +1,5 @@
 -- `numbers::number::unbiased` meets its contract: a biased exponent less 65,535 is `minus`.
-use mathlib.Core.Path.{_≡_, refl, sym, ap, _∙_}
+use mathlib.Core.Path.{_≡_, ap, _∙_}
 use Prim.Native.Nat.{ℕ, _^_, _≤_}
 use native.Mathlib.Omega.{arith}
 use borrow.Author.Needs.{needs}
@@ -7,7 +7,7 @@ use lib.Ieee.{minus}
 use lib.IntN.{ℤ, pos, _-ℤ_}
 use mir.Facts.{toZ-ofZ, toZ-pos}
 use mir.Syntax.{w32}
-use mir.Val.{SFits, toZ, ofZ}
+use mir.Val.{SFits, toZ}
 use Rattle.numbers.proofs.Laws.Bias.{less-bias, minus-small}
 use Rattle.numbers.proofs.number.unbiased.Statement.{statement}
 use Rattle.numbers.proofs.number.unbiased.Tie as tie

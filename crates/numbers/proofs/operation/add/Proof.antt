@@ -1,6 +1,7 @@
 -- `numbers::operation::add` meets its contract: it is `operate` at the sum.
 use borrow.Author.Needs.{needs}
-use Rattle.numbers.specs.Answer.{exactOf, sumOf}
+use Rattle.numbers.specs.Answer.{sumOf}
+use Rattle.numbers.specs.Words.{exactOf}
 use Rattle.numbers.proofs.operation.add.Statement.{statement}
 use Rattle.numbers.proofs.operation.add.Tie as tie
 

@@ -1,6 +1,7 @@
 -- `numbers::operation::multiply` meets its contract: it is `operate` at the product.
 use borrow.Author.Needs.{needs}
-use Rattle.numbers.specs.Answer.{exactOf, productOf}
+use Rattle.numbers.specs.Answer.{productOf}
+use Rattle.numbers.specs.Words.{exactOf}
 use Rattle.numbers.proofs.operation.multiply.Statement.{statement}
 use Rattle.numbers.proofs.operation.multiply.Tie as tie
 

@@ -1,13 +1,13 @@
 -- `numbers::operation::operate` meets its contract: each refusal has the tests before it behind it, and with no refusal the task is carried out.
 use mathlib.Core.Path.{_≡_, sym, ap, _∙_}
-use mathlib.Core.Bool.{Bool, true, false}
-use Prim.Native.Nat.{ℕ, _≤_, _<_}
-use native.Mathlib.Omega.{arith}
+use Prim.Native.Nat.{ℕ, _≤_}
 use borrow.Author.Needs.{needs}
 use borrow.Author.Tests.{not-true, not-false}
-use Rattle.numbers.specs.Answer.{outcome, rounded, exactOf, taskOf, precisionOf}
+use Rattle.numbers.specs.Rounding.{taskOf, precisionOf}
+use Rattle.numbers.specs.Answer.{outcome, rounded}
 use Rattle.numbers.specs.Fraction.{value}
-use Rattle.numbers.specs.declared.rounding.Task.{Task}
+use Rattle.numbers.specs.Words.{exactOf}
+use Rattle.numbers.specs.declared.task.Task.{Task}
 use Rattle.numbers.proofs.Laws.Refusals.{task-precision, unknown-mode, precision-zero, precision-above, first-unfit, second-unfit, none-refused}
 use Rattle.numbers.proofs.operation.operate.Statement.{statement}
 use Rattle.numbers.proofs.operation.operate.Tie as tie
@@ -50,8 +50,8 @@ returns-5 c =
 task-of-requires : tie.Need-task-of-requires
 task-of-requires c κs = search needs
 
-exactly-requires : tie.Need-exactly-requires
-exactly-requires c κs =
+answer-of-requires : tie.Need-answer-of-requires
+answer-of-requires c κs =
     let g = c .before in
     let f = g .before .before in
     let e = f .before .before in
@@ -64,7 +64,7 @@ returns-6 c =
     let g = t .before in
     let f = g .before .before in
     let e = f .before .before in
-    c .exactly .ensures
+    c .answer-of .ensures
     ∙ ap (λ (task : Task). rounded task (exactOf (e .before .before .before .args .operation) (value (e .before .before .before .args .a)) (value (e .before .before .before .args .b)))) (t .task-of .ensures)
     ∙ none-refused _ _ _ _ _ (e .before .before .if1 .left) (e .before .if2 .left) (e .if3 .left) (sym (f .before .is-working .ensures) ∙ not-false _ (f .if4 .left)) (sym (g .before .is-working2 .ensures) ∙ not-false _ (g .if5 .left))
 
@@ -80,5 +80,5 @@ operate-spec =
     is-working-requires-2
     returns-5
     task-of-requires
-    exactly-requires
+    answer-of-requires
     returns-6)

@@ -1,6 +1,7 @@
 -- `numbers::operation::subtract` meets its contract: it is `operate` at the difference.
 use borrow.Author.Needs.{needs}
-use Rattle.numbers.specs.Answer.{exactOf, differenceOf}
+use Rattle.numbers.specs.Answer.{differenceOf}
+use Rattle.numbers.specs.Words.{exactOf}
 use Rattle.numbers.proofs.operation.subtract.Statement.{statement}
 use Rattle.numbers.proofs.operation.subtract.Tie as tie
 

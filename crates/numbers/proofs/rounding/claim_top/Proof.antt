@@ -58,21 +58,21 @@ returns-2 c =
     too-many _ _ _ _ _ _ (cell .shift-right .result .rest) _ _ (cell .before .before .pre .4) (omega arith) (cell .shift-right .ensures .0) (cell .shift-right .ensures .1) (f .before .is-inside .ensures) (f .has-fraction .ensures)
     (not-false _ (c .before .if1 .left)) (c .if2 .taken)
 
-cast-placed : tie.Need-cast-placed
-cast-placed c = search needs
+cast-checked : tie.Need-cast-checked
+cast-checked c = search needs
 
-shl-placed : tie.Need-shl-placed
-shl-placed c = search needs
+shl-checked : tie.Need-shl-checked
+shl-checked c = search needs
 
-placed-requires : tie.Need-placed-requires
-placed-requires c κs = search needs
+checked-requires : tie.Need-checked-requires
+checked-requires c κs = search needs
 
 returns-3 : tie.Need-returns-3
 returns-3 c =
     let e = c .before .before in
     let f = e .before .before in
     let cell = f .before .before in
-    c .placed .ensures
+    c .checked .ensures
     ∙ none _ _ _ _ _ _ (cell .shift-right .result .rest) _ _ (cell .before .before .pre .4) (c .before .struct-known2 .given .1 .0 .fits) (cell .shift-right .ensures .0) (cell .shift-right .ensures .1) (f .before .is-inside .ensures) (f .has-fraction .ensures)
     (cell .before .before .pre .2) (not-false _ (e .before .if1 .left)) (e .if2 .left)
 
@@ -86,7 +86,7 @@ claim-top-spec =
     has-fraction-requires
     returns
     returns-2
-    cast-placed
-    shl-placed
-    placed-requires
+    cast-checked
+    shl-checked
+    checked-requires
     returns-3)

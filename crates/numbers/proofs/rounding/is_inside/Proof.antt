@@ -1,6 +1,6 @@
 -- `numbers::rounding::is_inside` meets its contract: the two tests are the two ends of the working exponents, for (exponent + 127) - (131,196 + zeros).
 use mathlib.Core.Path.{_≡_, sym, _∙_}
-use mathlib.Core.Bool.{true, false}
+use mathlib.Core.Bool.{false}
 use Prim.Native.Nat.{ℕ, _+_, _-_, _≤_, _<_}
 use native.Mathlib.Decide.{decLe}
 use native.Mathlib.Nat.{lt-of-not-le}

@@ -1,6 +1,6 @@
 -- `numbers::rounding::round_top` meets its contract: the upper n bits are the whole number that `wholeOf` starts from, and each way out places
 -- the whole number that `wholeOf` gives.
-use mathlib.Core.Path.{_≡_, refl, sym, ap, ap₂, _∙_}
+use mathlib.Core.Path.{_≡_, sym, ap, ap₂, _∙_}
 use mathlib.Core.Bool.{Bool, true, false, cond}
 use Prim.Native.Nat.{ℕ, suc, _+_, _-_, _*_, _/_, _%_, _^_, _≤_, _<_}
 use native.Mathlib.Nat.{one-mul, mod-eq-of-lt}
@@ -9,14 +9,14 @@ use borrow.Author.Needs.{needs}
 use borrow.Author.Tests.{not-true, not-false}
 use lib.Dec.{ltb}
 use lib.Ieee.{minus}
-use lib.IntN.{ℤ, sucℤ}
+use lib.IntN.{ℤ}
 use lib.Pow.{pow-lt, pow-pos}
 use Rattle.numbers.specs.Answer.{checked}
 use Rattle.numbers.specs.Grid.{digit}
 use Rattle.numbers.specs.Rounding.{goesUp, wholeOf}
 use Rattle.numbers.specs.Words.{wide, lastBit, roundedTop}
 use Rattle.numbers.specs.declared.number.Number.the-variants.{Finite}
-use Rattle.numbers.specs.declared.rounding.Mode.{Mode}
+use Rattle.numbers.specs.declared.task.Mode.{Mode}
 use Rattle.numbers.proofs.Laws.Exponent.{suc-minus}
 use Rattle.numbers.proofs.Laws.Top.{top-whole, high-small, significand-is, placed-same, placed-carry, placed-next}
 use Rattle.numbers.proofs.rounding.round_top.Statement.{statement}
@@ -82,14 +82,14 @@ shl-significand c = omega arith
 goes-up-requires : tie.Need-goes-up-requires
 goes-up-requires c κs = search needs
 
-placed-requires : tie.Need-placed-requires
-placed-requires c κs = search needs
+checked-requires : tie.Need-checked-requires
+checked-requires c κs = search needs
 
 returns : tie.Need-returns
 returns c =
     let start = c .before .before .before .before .before .before in
     let known = c .before .before .before in
-    c .placed .ensures
+    c .checked .ensures
     ∙ (stays _ _ _ _ _ _ _ _ (known .before .shift-right .result .rest) _ (start .pre .3) (start .pre .4) (start .pre .2) (known .struct-known2 .given .1 .0 .fits) (known .before .shift-right .ensures .0) (known .before .shift-right .ensures .1)
     (c .before .before .goes-up .ensures) (not-true _ (c .before .if1 .taken)))
 
@@ -102,23 +102,23 @@ shl-unit c = omega arith
 sub-if2 : tie.Need-sub-if2
 sub-if2 c = search needs
 
-add-placed : tie.Need-add-placed
-add-placed c = search needs
+add-checked : tie.Need-add-checked
+add-checked c = search needs
 
-placed-requires-2 : tie.Need-placed-requires-2
-placed-requires-2 c κs = search needs
+checked-requires-2 : tie.Need-checked-requires-2
+checked-requires-2 c κs = search needs
 
-add-placed-2 : tie.Need-add-placed-2
-add-placed-2 c = search needs
+add-checked-2 : tie.Need-add-checked-2
+add-checked-2 c = search needs
 
-placed-requires-3 : tie.Need-placed-requires-3
-placed-requires-3 c κs = search needs
+checked-requires-3 : tie.Need-checked-requires-3
+checked-requires-3 c κs = search needs
 
 returns-2 : tie.Need-returns-2
 returns-2 c =
     let start = c .before .before .before .before .before .before .before in
     let known = c .before .before .before .before in
-    c .placed2 .ensures
+    c .checked2 .ensures
     ∙ (carries _ _ _ _ _ _ _ _ (known .before .shift-right .result .rest) _ (start .pre .3) (start .pre .4) (start .pre .2) (known .struct-known2 .given .1 .0 .fits) (known .before .shift-right .ensures .0) (known .before .shift-right .ensures .1)
     (c .before .before .before .goes-up .ensures) (not-false _ (c .before .before .if1 .left)) (c .before .if2 .taken))
 
@@ -126,7 +126,7 @@ returns-3 : tie.Need-returns-3
 returns-3 c =
     let start = c .before .before .before .before .before .before .before in
     let known = c .before .before .before .before in
-    c .placed3 .ensures
+    c .checked3 .ensures
     ∙ (goes-on _ _ _ _ _ _ _ _ (known .before .shift-right .result .rest) _ (start .pre .3) (start .pre .4) (start .pre .2) (known .struct-known2 .given .1 .0 .fits) (known .before .shift-right .ensures .0) (known .before .shift-right .ensures .1)
     (c .before .before .before .goes-up .ensures) (not-false _ (c .before .before .if1 .left)) (c .before .if2 .left))
 
@@ -139,14 +139,14 @@ round-top-spec =
     cast-significand
     shl-significand
     goes-up-requires
-    placed-requires
+    checked-requires
     returns
     cast-unit
     shl-unit
     sub-if2
-    add-placed
-    placed-requires-2
-    add-placed-2
-    placed-requires-3
+    add-checked
+    checked-requires-2
+    add-checked-2
+    checked-requires-3
     returns-2
     returns-3)

@@ -4,11 +4,12 @@ use mathlib.Core.Bool.{Bool, cond}
 use Prim.Native.Nat.{ℕ, _+_, _-_, _*_, _/_, _%_, _^_, _≤_, _<_}
 use borrow.Author.Needs.{needs}
 use lib.Dec.{ltb}
-use Rattle.numbers.specs.Answer.{Outcome, precisionOf, rounded}
+use Rattle.numbers.specs.Rounding.{precisionOf}
+use Rattle.numbers.specs.Answer.{Outcome, rounded}
 use Rattle.numbers.specs.Fraction.{sum}
 use Rattle.numbers.specs.Words.{scaledValue, oddOf, operandValue, IsAligned}
 use Rattle.numbers.specs.declared.operand.Operand.{Operand}
-use Rattle.numbers.specs.declared.rounding.Task.{Task}
+use Rattle.numbers.specs.declared.task.Task.{Task}
 use Rattle.numbers.proofs.Laws.Aligned.{sum-fits, added-rounds}
 use Rattle.numbers.proofs.sum.added.Statement.{statement}
 use Rattle.numbers.proofs.sum.added.Tie as tie
@@ -42,26 +43,26 @@ sub-shift-right c = search needs
 shift-right-requires : tie.Need-shift-right-requires
 shift-right-requires c κs = search needs
 
-total-requires : tie.Need-total-requires
-total-requires c κs =
+sum-requires : tie.Need-sum-requires
+sum-requires c κs =
     let start = c .before .before .before .before .before in
     fits _ _ (start .pre .0) _ (start .pre .2) (start .pre .3) _ _ _ (c .shift-right .result .rest) (c .before .before .before .before .raised .ensures) (c .before .before .before .raised2 .ensures) (c .shift-right .ensures .0) (c .shift-right .ensures .1)
 
-add-round : tie.Need-add-round
-add-round c = search needs
+add-rounded : tie.Need-add-rounded
+add-rounded c = search needs
 
 sticky-requires : tie.Need-sticky-requires
 sticky-requires c κs = search needs
 
-round-requires : tie.Need-round-requires
-round-requires c κs = search needs
+rounded-requires : tie.Need-rounded-requires
+rounded-requires c κs = search needs
 
 returns : tie.Need-returns
 returns c =
     let start = c .before .before .before .before .before .before .before .before .before in
     let cell = c .before .before .before .before in
     answers _ _ (start .pre .0) _ (start .pre .2) (start .pre .3) _ _ _ (cell .shift-right .result .rest) (cell .before .before .before .before .raised .ensures) (cell .before .before .before .raised2 .ensures) (cell .shift-right .ensures .0)
-    (cell .shift-right .ensures .1) (start .pre .1) _ _ _ (c .before .before .before .total .ensures) (c .before .sticky .ensures) (c .round .ensures)
+    (cell .shift-right .ensures .1) (start .pre .1) _ _ _ (c .before .before .before .sum .ensures) (c .before .sticky .ensures) (c .rounded .ensures)
 
 pub added-spec : {M : Type 1} → statement M
 added-spec =
@@ -71,8 +72,8 @@ added-spec =
     raised-requires-2
     sub-shift-right
     shift-right-requires
-    total-requires
-    add-round
+    sum-requires
+    add-rounded
     sticky-requires
-    round-requires
+    rounded-requires
     returns)

@@ -1,4 +1,4 @@
--- `numbers::sum::aligned` meets its contract: the two signs are the same, or one is the other's opposite.
+-- `numbers::sum::aligned` meets its contract: the two signs are the same, or one is the other's negated.
 use mathlib.Core.Path.{_≡_, refl}
 use mathlib.Core.Bool.{Bool, true, false, not, Bool·beq}
 use Prim.Native.Nat.{ℕ}

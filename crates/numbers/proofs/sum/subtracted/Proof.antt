@@ -1,16 +1,17 @@
 -- `numbers::sum::subtracted` meets its contract: the callees' equations give the difference's cell, and Laws.Aligned how it is rounded.
 use mathlib.Core.Path.{_≡_, sym, ap, _∙_}
 use mathlib.Core.Bool.{Bool, not, cond}
-use Prim.Native.Nat.{ℕ, _+_, _-_, _*_, _/_, _%_, _^_, _≤_, _<_}
+use Prim.Native.Nat.{ℕ, _+_, _-_, _*_, _/_, _%_, _^_, _≤_}
 use native.Mathlib.Omega.{arith}
 use borrow.Author.Needs.{needs}
 use lib.Dec.{ltb}
-use Rattle.numbers.specs.Answer.{Outcome, precisionOf, rounded}
+use Rattle.numbers.specs.Rounding.{precisionOf}
+use Rattle.numbers.specs.Answer.{Outcome, rounded}
 use Rattle.numbers.specs.Fraction.{sum}
 use Rattle.numbers.specs.Grid.{digit}
 use Rattle.numbers.specs.Words.{scaledValue, oddOf, operandValue, IsAligned}
 use Rattle.numbers.specs.declared.operand.Operand.{Operand}
-use Rattle.numbers.specs.declared.rounding.Task.{Task}
+use Rattle.numbers.specs.declared.task.Task.{Task}
 use Rattle.numbers.proofs.Laws.Aligned.{borrow-fits, subtracted-rounds}
 use Rattle.numbers.proofs.sum.subtracted.Statement.{statement}
 use Rattle.numbers.proofs.sum.subtracted.Tie as tie
@@ -50,36 +51,36 @@ sub-shift-right c = search needs
 shift-right-requires : tie.Need-shift-right-requires
 shift-right-requires c κs = search needs
 
-remainder-requires : tie.Need-remainder-requires
-remainder-requires c κs =
+difference-requires : tie.Need-difference-requires
+difference-requires c κs =
     let start = c .before .before .before .before .before in
     fits _ _ (start .pre .0) _ (start .pre .2) (start .pre .3) _ _ _ (c .shift-right .result .rest) (c .before .before .before .before .raised .ensures) (c .before .before .before .raised2 .ensures) (c .shift-right .ensures .0) (c .shift-right .ensures .1)
 
 borrow-requires : tie.Need-borrow-requires
 borrow-requires c κs = search needs
 
-remainder-requires-2 : tie.Need-remainder-requires-2
-remainder-requires-2 c κs =
+difference-requires-2 : tie.Need-difference-requires-2
+difference-requires-2 c κs =
     let cell = c .before .before in
     let start = cell .before .before .before .before .before in
     still-fits _ _ (start .pre .0) _ (start .pre .2) (start .pre .3) _ _ _ (cell .shift-right .result .rest) (cell .before .before .before .before .raised .ensures) (cell .before .before .before .raised2 .ensures) (cell .shift-right .ensures .0)
-    (cell .shift-right .ensures .1) _ _ (c .before .remainder .ensures) (c .borrow .ensures)
+    (cell .shift-right .ensures .1) _ _ (c .before .difference .ensures) (c .borrow .ensures)
 
-add-round : tie.Need-add-round
-add-round c = search needs
+add-rounded : tie.Need-add-rounded
+add-rounded c = search needs
 
 sticky-requires : tie.Need-sticky-requires
 sticky-requires c κs = search needs
 
-round-requires : tie.Need-round-requires
-round-requires c κs = search needs
+rounded-requires : tie.Need-rounded-requires
+rounded-requires c κs = search needs
 
 returns : tie.Need-returns
 returns c =
     let cell = c .before .before .before .before .before .before in
     let start = cell .before .before .before .before .before in
     answers _ _ (start .pre .0) _ (start .pre .2) (start .pre .3) _ _ _ (cell .shift-right .result .rest) (cell .before .before .before .before .raised .ensures) (cell .before .before .before .raised2 .ensures) (cell .shift-right .ensures .0)
-    (cell .shift-right .ensures .1) (start .pre .1) _ _ _ _ _ (c .before .before .before .before .before .remainder .ensures) (c .before .before .before .before .borrow .ensures) (c .before .before .before .remainder2 .ensures) (c .before .sticky .ensures) (c .round .ensures)
+    (cell .shift-right .ensures .1) (start .pre .1) _ _ _ _ _ (c .before .before .before .before .before .difference .ensures) (c .before .before .before .before .borrow .ensures) (c .before .before .before .difference2 .ensures) (c .before .sticky .ensures) (c .rounded .ensures)
 
 pub subtracted-spec : {M : Type 1} → statement M
 subtracted-spec =
@@ -89,10 +90,10 @@ subtracted-spec =
     raised-requires-2
     sub-shift-right
     shift-right-requires
-    remainder-requires
+    difference-requires
     borrow-requires
-    remainder-requires-2
-    add-round
+    difference-requires-2
+    add-rounded
     sticky-requires
-    round-requires
+    rounded-requires
     returns)

@@ -1,39 +1,40 @@
--- `numbers::operation::exactly` meets its contract: the operands have the numbers' values, and rounding depends on the value alone.
+-- `numbers::operation::answer_of` meets its contract: the operands have the numbers' values, and rounding depends on the value alone.
 use mathlib.Core.Path.{_≡_, sym, ap, _∙_}
 use mathlib.Core.Bool.{true}
-use Prim.Native.Nat.{ℕ, _≤_}
+use Prim.Native.Nat.{_≤_}
 use borrow.Author.Needs.{needs}
-use Rattle.numbers.specs.Answer.{Outcome, precisionOf, rounded, exactOf}
-use Rattle.numbers.specs.Fraction.{Fraction, Equal, value, sum, product}
-use Rattle.numbers.specs.Number.{isWorking, opposite}
-use Rattle.numbers.specs.Words.{operandValue}
+use Rattle.numbers.specs.Rounding.{precisionOf}
+use Rattle.numbers.specs.Answer.{Outcome, rounded}
+use Rattle.numbers.specs.Fraction.{Equal, value, sum, product}
+use Rattle.numbers.specs.Number.{isWorking, negated}
+use Rattle.numbers.specs.Words.{operandValue, exactOf}
 use Rattle.numbers.specs.declared.number.Number.{Number}
 use Rattle.numbers.specs.declared.operand.Operand.{Operand}
 use Rattle.numbers.specs.declared.operation.Operation.{Operation}
 use Rattle.numbers.specs.declared.operation.Operation.the-variants.{Sum, Difference, Product}
-use Rattle.numbers.specs.declared.rounding.Task.{Task}
+use Rattle.numbers.specs.declared.task.Task.{Task}
 use Rattle.numbers.proofs.Laws.Fractions.{sum-fraction, sum-equal, product-fraction, product-equal}
 use Rattle.numbers.proofs.Laws.Operands.{operand-fraction}
-use Rattle.numbers.proofs.Laws.Opposite.{opposite-working, difference-is}
+use Rattle.numbers.proofs.Laws.Negated.{negated-working, difference-is}
 use Rattle.numbers.proofs.Laws.Rounded.{value-fraction}
-use Rattle.numbers.proofs.Laws.Value.{value-alone}
-use Rattle.numbers.proofs.operation.exactly.Statement.{statement}
-use Rattle.numbers.proofs.operation.exactly.Tie as tie
+use Rattle.numbers.proofs.Laws.Value.{same-outcome}
+use Rattle.numbers.proofs.operation.answer_of.Statement.{statement}
+use Rattle.numbers.proofs.operation.answer_of.Tie as tie
 
-still-working : (b c : Number) → c ≡ opposite b → isWorking b ≡ true → isWorking c ≡ true
-still-working b c e h = ap isWorking e ∙ opposite-working b ∙ h
+still-working : (b c : Number) → c ≡ negated b → isWorking b ≡ true → isWorking c ≡ true
+still-working b c e h = ap isWorking e ∙ negated-working b ∙ h
 
 module _ (task : Task) (n0 : 1 ≤ precisionOf task) (a b : Number) (x y : Operand) (out : Outcome) (a-is : Equal (value a) (operandValue x)) (b-is : Equal (value b) (operandValue y)) where
   sum-same : rounded task (sum (value a) (value b)) ≡ rounded task (sum (operandValue x) (operandValue y))
   sum-same =
-      value-alone task (sum (value a) (value b)) (sum (operandValue x) (operandValue y)) (sum-fraction (value a) (value b) (value-fraction a) (value-fraction b))
+      same-outcome task (sum (value a) (value b)) (sum (operandValue x) (operandValue y)) (sum-fraction (value a) (value b) (value-fraction a) (value-fraction b))
       (sum-fraction (operandValue x) (operandValue y) (operand-fraction x) (operand-fraction y)) n0 (sum-equal (value a) (value b) (operandValue x) (operandValue y) a-is b-is)
 
   of-sum : (operation : Operation) → operation ≡ Sum → out ≡ rounded task (sum (operandValue x) (operandValue y)) → out ≡ rounded task (exactOf operation (value a) (value b))
   unfolding exactOf
   of-sum operation e o = o ∙ sym sum-same ∙ rw e
 
-  of-difference : (operation : Operation) (c : Number) → operation ≡ Difference → b ≡ opposite c → out ≡ rounded task (sum (operandValue x) (operandValue y)) → out ≡ rounded task (exactOf operation (value a) (value c))
+  of-difference : (operation : Operation) (c : Number) → operation ≡ Difference → b ≡ negated c → out ≡ rounded task (sum (operandValue x) (operandValue y)) → out ≡ rounded task (exactOf operation (value a) (value c))
   unfolding exactOf
   of-difference operation c e k o =
       o ∙ sym sum-same ∙ ap (λ (z : Number). rounded task (sum (value a) (value z))) k ∙ ap (rounded task) (difference-is (value a) c) ∙ rw e
@@ -42,7 +43,7 @@ module _ (task : Task) (n0 : 1 ≤ precisionOf task) (a b : Number) (x y : Opera
   unfolding exactOf
   of-product operation e o =
       o
-      ∙ sym (value-alone task (product (value a) (value b)) (product (operandValue x) (operandValue y)) (product-fraction (value a) (value b) (value-fraction a) (value-fraction b))
+      ∙ sym (same-outcome task (product (value a) (value b)) (product (operandValue x) (operandValue y)) (product-fraction (value a) (value b) (value-fraction a) (value-fraction b))
       (product-fraction (operandValue x) (operandValue y) (operand-fraction x) (operand-fraction y)) n0
       (product-equal (value a) (value b) (operandValue x) (operandValue y) (value-fraction a) (value-fraction b) (operand-fraction x) (operand-fraction y) a-is b-is))
       ∙ rw e
@@ -56,8 +57,8 @@ enum-told c = search needs
 operand-of-requires-2 : tie.Need-operand-of-requires-2
 operand-of-requires-2 c κs = search needs
 
-sum-requires : tie.Need-sum-requires
-sum-requires c κs = search needs
+rounded-sum-requires : tie.Need-rounded-sum-requires
+rounded-sum-requires c κs = search needs
 
 enum-told-2 : tie.Need-enum-told-2
 enum-told-2 c = search needs
@@ -68,8 +69,8 @@ negated-requires c κs = search needs
 operand-of-requires-3 : tie.Need-operand-of-requires-3
 operand-of-requires-3 c κs = still-working _ _ (c .negated .ensures) (c .before .before .before .before .pre .1)
 
-sum-requires-2 : tie.Need-sum-requires-2
-sum-requires-2 c κs = search needs
+rounded-sum-requires-2 : tie.Need-rounded-sum-requires-2
+rounded-sum-requires-2 c κs = search needs
 
 enum-told-3 : tie.Need-enum-told-3
 enum-told-3 c = search needs
@@ -77,39 +78,39 @@ enum-told-3 c = search needs
 operand-of-requires-4 : tie.Need-operand-of-requires-4
 operand-of-requires-4 c κs = search needs
 
-product-requires : tie.Need-product-requires
-product-requires c κs = search needs
+rounded-product-requires : tie.Need-rounded-product-requires
+rounded-product-requires c κs = search needs
 
 returns : tie.Need-returns
 returns c =
     let start = c .before .before .before .before .before in
-    of-sum _ (start .pre .2) _ _ _ _ _ (c .before .before .before .before .operand-of .ensures .0) (c .before .operand-of2 .ensures .0) _ (c .before .before .enum-told .given .1) (c .sum .ensures)
+    of-sum _ (start .pre .2) _ _ _ _ _ (c .before .before .before .before .operand-of .ensures .0) (c .before .operand-of2 .ensures .0) _ (c .before .before .enum-told .given .1) (c .rounded-sum .ensures)
 
 returns-2 : tie.Need-returns-2
 returns-2 c =
     let start = c .before .before .before .before .before .before in
-    of-difference _ (start .pre .2) _ _ _ _ _ (c .before .before .before .before .before .operand-of .ensures .0) (c .before .operand-of3 .ensures .0) _ _ (c .before .before .before .enum-told2 .given .1) (c .before .before .negated .ensures) (c .sum2 .ensures)
+    of-difference _ (start .pre .2) _ _ _ _ _ (c .before .before .before .before .before .operand-of .ensures .0) (c .before .operand-of3 .ensures .0) _ _ (c .before .before .before .enum-told2 .given .1) (c .before .before .negated .ensures) (c .rounded-sum2 .ensures)
 
 returns-3 : tie.Need-returns-3
 returns-3 c =
     let start = c .before .before .before .before .before in
-    of-product _ (start .pre .2) _ _ _ _ _ (c .before .before .before .before .operand-of .ensures .0) (c .before .operand-of4 .ensures .0) _ (c .before .before .enum-told3 .given .1) (c .product .ensures)
+    of-product _ (start .pre .2) _ _ _ _ _ (c .before .before .before .before .operand-of .ensures .0) (c .before .operand-of4 .ensures .0) _ (c .before .before .enum-told3 .given .1) (c .rounded-product .ensures)
 
-pub exactly-spec : {M : Type 1} → statement M
-exactly-spec =
+pub answer-of-spec : {M : Type 1} → statement M
+answer-of-spec =
     tie.close
     (tie.spec
     operand-of-requires
     enum-told
     operand-of-requires-2
-    sum-requires
+    rounded-sum-requires
     enum-told-2
     negated-requires
     operand-of-requires-3
-    sum-requires-2
+    rounded-sum-requires-2
     enum-told-3
     operand-of-requires-4
-    product-requires
+    rounded-product-requires
     returns
     returns-2
     returns-3)

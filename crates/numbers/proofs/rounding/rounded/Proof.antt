@@ -1,4 +1,4 @@
--- `numbers::rounding::round` meets its contract: shifted to its top bit the magnitude is rounded or claimed there, and the laws of Top carry that to its value.
+-- `numbers::rounding::rounded` meets its contract: shifted to its top bit the magnitude is rounded or claimed there, and the laws of Top carry that to its value.
 use mathlib.Core.Path.{_≡_, sym, ap, _∙_}
 use mathlib.Core.Bool.{Bool}
 use mathlib.Core.Logic.{⊎-elim}
@@ -7,20 +7,21 @@ use native.Mathlib.Nat.{zero-mul}
 use native.Mathlib.Omega.{arith}
 use borrow.Author.Needs.{needs}
 use lib.Ieee.{minus}
-use Rattle.numbers.specs.Answer.{outcome, checked, precisionOf, rounded}
+use Rattle.numbers.specs.Rounding.{precisionOf}
+use Rattle.numbers.specs.Answer.{outcome, checked, rounded}
 use Rattle.numbers.specs.Words.{wide, lastBit, scaledValue, roundedTop, claimedTop}
 use Rattle.numbers.specs.declared.answer.Answer.the-variants.{Given}
 use Rattle.numbers.specs.declared.number.Number.the-variants.{Zero}
-use Rattle.numbers.specs.declared.rounding.Claim.{Claim}
-use Rattle.numbers.specs.declared.rounding.Mode.the-variants.{Trunc}
-use Rattle.numbers.specs.declared.rounding.Rounding.{Rounding}
-use Rattle.numbers.specs.declared.rounding.Task.{Task}
-use Rattle.numbers.specs.declared.rounding.Task.the-variants.{Round, Exact}
+use Rattle.numbers.specs.declared.task.Claim.{Claim}
+use Rattle.numbers.specs.declared.task.Mode.the-variants.{Trunc}
+use Rattle.numbers.specs.declared.task.Rounding.{Rounding}
+use Rattle.numbers.specs.declared.task.Task.{Task}
+use Rattle.numbers.specs.declared.task.Task.the-variants.{Round, Exact}
 use Rattle.numbers.proofs.Laws.Signs.{abs-signed}
 use Rattle.numbers.proofs.Laws.Top.{round-top, claim-top}
 use Rattle.numbers.proofs.Laws.Value.{rounded-zero}
-use Rattle.numbers.proofs.rounding.round.Statement.{statement}
-use Rattle.numbers.proofs.rounding.round.Tie as tie
+use Rattle.numbers.proofs.rounding.rounded.Statement.{statement}
+use Rattle.numbers.proofs.rounding.rounded.Tie as tie
 
 -- no bit is set
 nothing : (task : Task) (negative : Bool) (high low x : ℕ) → high ≡ 0 → low ≡ 0 → outcome (Given Zero) ≡ rounded task (scaledValue negative (wide high low) x)
@@ -107,8 +108,8 @@ returns-3 c =
     c .claim-top .ensures
     ∙ claim-value _ (start .pre .1) (start .pre .2) _ _ _ _ _ (zeros .ensures .1) (zeros .ensures .2) (c .before .before .before .before .shift-left .ensures) _ (c .before .before .task2 .given .1)
 
-pub round-spec : {M : Type 1} → statement M
-round-spec =
+pub rounded-spec : {M : Type 1} → statement M
+rounded-spec =
     tie.close
     (tie.spec
     returns

@@ -1,12 +1,12 @@
--- `numbers::sum::sum` meets its contract: the larger operand is put first, and a sum does not depend on the order.
-use mathlib.Core.Path.{_≡_, ap, _∙_}
+-- `numbers::sum::rounded_sum` meets its contract: the larger operand is put first, and a sum does not depend on the order.
+use mathlib.Core.Path.{ap, _∙_}
 use native.Mathlib.Omega.{arith}
 use borrow.Author.Needs.{needs}
 use Rattle.numbers.specs.Answer.{rounded}
 use Rattle.numbers.proofs.Laws.Aligned.{by-exponent, by-significand}
 use Rattle.numbers.proofs.Laws.Fractions.{sum-swap}
-use Rattle.numbers.proofs.sum.sum.Statement.{statement}
-use Rattle.numbers.proofs.sum.sum.Tie as tie
+use Rattle.numbers.proofs.sum.rounded_sum.Statement.{statement}
+use Rattle.numbers.proofs.sum.rounded_sum.Tie as tie
 
 aligned-requires : tie.Need-aligned-requires
 aligned-requires c κs = let start = c .before .before .before in (by-exponent _ _ (start .pre .1) (start .pre .0) (c .if1 .taken), start .pre .2, start .pre .3)
@@ -32,8 +32,8 @@ aligned-requires-4 c κs = let start = c .before .before .before .before .before
 returns-4 : tie.Need-returns-4
 returns-4 c = search needs
 
-pub sum-spec : {M : Type 1} → statement M
-sum-spec =
+pub rounded-sum-spec : {M : Type 1} → statement M
+rounded-sum-spec =
     tie.close
     (tie.spec
     aligned-requires

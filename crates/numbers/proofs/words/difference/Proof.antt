@@ -1,11 +1,11 @@
--- `numbers::words::remainder` meets its contract. The low words borrow 1 from the high ones where a's is below b's.
+-- `numbers::words::difference` meets its contract. The low words borrow 1 from the high ones where a's is below b's.
 -- Assumes nothing.
 use borrow.Author.Needs.{needs}
 use native.Mathlib.Nat.{sub-pos-iff-lt}
 use native.Mathlib.Omega.{arith}
 use Rattle.numbers.proofs.Laws.Wide.{wide-sum, wide-le, wide-lt}
-use Rattle.numbers.proofs.words.remainder.Statement.{statement}
-use Rattle.numbers.proofs.words.remainder.Tie as tie
+use Rattle.numbers.proofs.words.difference.Statement.{statement}
+use Rattle.numbers.proofs.words.difference.Tie as tie
 
 sub-high : tie.Need-sub-high
 sub-high c = wide-le _ _ _ _ (c .before .before .pre) (c .before .struct-known .given .1 .0 .fits)
@@ -22,5 +22,5 @@ returns c = wide-sum 1 _ _ _ _ _ _ (omega (arith, sub-t6 c)) (omega arith)
 returns-2 : tie.Need-returns-2
 returns-2 c = wide-sum 0 _ _ _ _ _ _ (omega (arith, sub-high (c .before .before .before .before))) (omega arith)
 
-pub remainder-spec : {M : Type 1} → statement M
-remainder-spec = tie.close (tie.spec sub-high wrapping-sub-u64-requires sub-t6 returns returns-2)
+pub difference-spec : {M : Type 1} → statement M
+difference-spec = tie.close (tie.spec sub-high wrapping-sub-u64-requires sub-t6 returns returns-2)

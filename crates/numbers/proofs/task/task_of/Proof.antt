@@ -1,11 +1,11 @@
--- `numbers::rounding::task_of` meets its contract: each code has its own case of `taskOf`.
+-- `numbers::task::task_of` meets its contract: each code has its own case of `taskOf`.
 use mathlib.Core.Path.{_≡_}
 use Prim.Native.Nat.{ℕ}
 use borrow.Author.Tests.{ne-eqb}
-use Rattle.numbers.specs.Answer.{taskOf}
-use Rattle.numbers.specs.declared.rounding.Task.the-variants.{Exact}
-use Rattle.numbers.proofs.rounding.task_of.Statement.{statement}
-use Rattle.numbers.proofs.rounding.task_of.Tie as tie
+use Rattle.numbers.specs.Rounding.{taskOf}
+use Rattle.numbers.specs.declared.task.Task.the-variants.{Exact}
+use Rattle.numbers.proofs.task.task_of.Statement.{statement}
+use Rattle.numbers.proofs.task.task_of.Tie as tie
 
 exact : (code n : ℕ) → (code ≡ 0 → ⊥) → (code ≡ 1 → ⊥) → (code ≡ 2 → ⊥) → (code ≡ 3 → ⊥) → (code ≡ 4 → ⊥) → (code ≡ 5 → ⊥) → Exact (record { precision = n }) ≡ taskOf code n
 unfolding taskOf

@@ -1,4 +1,4 @@
--- `numbers::words::total` meets its contract. The low words carry 1 where their wrapped sum is below one of them.
+-- `numbers::words::sum` meets its contract. The low words carry 1 where their wrapped sum is below one of them.
 -- Assumes nothing.
 use borrow.Author.Needs.{needs}
 use mathlib.Core.Path.{refl, sym}
@@ -6,8 +6,8 @@ use native.Mathlib.Nat.{add-zero}
 use native.Mathlib.Omega.{arith}
 use mir.Facts.{fits-of-lt}
 use Rattle.numbers.proofs.Laws.Wide.{wide-sum, wide-high}
-use Rattle.numbers.proofs.words.total.Statement.{statement}
-use Rattle.numbers.proofs.words.total.Tie as tie
+use Rattle.numbers.proofs.words.sum.Statement.{statement}
+use Rattle.numbers.proofs.words.sum.Tie as tie
 
 add-high : tie.Need-add-high
 add-high c = fits-of-lt (wide-high _ _ (rw (wide-sum 0 _ _ _ _ _ _ (add-zero _) (sym (add-zero _))) at (c .before .before .pre)))
@@ -24,5 +24,5 @@ add-t6 c = fits-of-lt (wide-high _ _ (rw (sym (returns c)) at (c .before .before
 returns-2 : tie.Need-returns-2
 returns-2 c = sym (wide-sum 0 _ _ _ _ _ _ (add-zero _) (omega arith))
 
-pub total-spec : {M : Type 1} → statement M
-total-spec = tie.close (tie.spec add-high wrapping-add-u64-requires add-t6 returns returns-2)
+pub sum-spec : {M : Type 1} → statement M
+sum-spec = tie.close (tie.spec add-high wrapping-add-u64-requires add-t6 returns returns-2)

@@ -1,4 +1,4 @@
--- `numbers::rounding::placed` meets its contract: the exponent is (exponent + 127) - (131,196 + zeros).
+-- `numbers::rounding::checked` meets its contract: the exponent is (exponent + 127) - (131,196 + zeros).
 use mathlib.Core.Path.{_≡_, sym, _∙_}
 use mathlib.Core.Bool.{Bool, true, false}
 use Prim.Native.Nat.{ℕ, _+_, _-_, _≤_}
@@ -16,8 +16,8 @@ use Rattle.numbers.specs.declared.answer.Answer.the-variants.{Given, Exp
 use Rattle.numbers.specs.declared.number.Number.the-variants.{Finite}
 use Rattle.numbers.proofs.Laws.Bias.{working-range}
 use Rattle.numbers.proofs.Laws.Exponent.{minus-same}
-use Rattle.numbers.proofs.rounding.placed.Statement.{statement}
-use Rattle.numbers.proofs.rounding.placed.Tie as tie
+use Rattle.numbers.proofs.rounding.checked.Statement.{statement}
+use Rattle.numbers.proofs.rounding.checked.Tie as tie
 
 module _ (negative : Bool) (S x z : ℕ) (inside : Bool) (e : inside ≡ isWorkingExponent (minus (x + 127) (lastBit + z))) where
   outside : inside ≡ false → outcome ExponentOutside ≡ checked (Finite negative (minus (x + 127) (lastBit + z)) S)
@@ -54,7 +54,7 @@ returns c = fit _ _ _ _ _ (c .before .before .is-inside .ensures) (c .before .if
 returns-2 : tie.Need-returns-2
 returns-2 c = outside _ _ _ _ _ (c .before .is-inside .ensures) (c .if1 .left)
 
-pub placed-spec : {M : Type 1} → statement M
-placed-spec =
+pub checked-spec : {M : Type 1} → statement M
+checked-spec =
     tie.close
     (tie.spec is-inside-requires add-unbiased sub-unbiased unbiased-requires returns returns-2)

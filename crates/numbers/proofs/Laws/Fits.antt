@@ -1,0 +1,154 @@
+-- What a rounding gives is fit: its significand has the top bit set, and an outcome that is a number is a working number.
+use mathlib.Core.Path.{_≡_, refl, sym, ap, _∙_}
+use mathlib.Core.Bool.{Bool, true, false, cond}
+use Prim.Native.Nat.{ℕ, zero, suc, _+_, _-_, _*_, _/_, _%_, _^_, _≤_, _<_}
+use native.Mathlib.Decide.{ℕ-discrete}
+use native.Mathlib.Nat.{le-of-eq, le-trans, lt-of-lt-of-le, mul-pos, mul-le-mul-right, mul-lt-mul-of-pos-right, le-div-iff-mul-le, div-lt-iff-lt-mul}
+use native.Mathlib.Omega.{arith}
+use borrow.Author.Tests.{le-leb, lt-ltb, eq-eqb, ne-eqb}
+use lib.Dec.{eqb}
+use lib.IntN.{ℤ, natAbs, sucℤ}
+use lib.Ieee.{up}
+use lib.Ieee.Fits.{up-pos}
+use lib.Pow.{pow-add, pow-pos}
+use Rattle.numbers.specs.Number.{isSignificand, isFit, isWorkingExponent, isWorking}
+use Rattle.numbers.specs.Fraction.{Fraction, IsFraction}
+use Rattle.numbers.specs.Rounding.{exponentOf, scaledNumerator, scaledDenominator, goesUp, wholeOf, placed, roundedAt, isNegative, round, hasAtMostBits, precisionOf}
+use Rattle.numbers.specs.Answer.{given, refused, checked, claimed, rounded}
+use Rattle.numbers.specs.declared.number.Number.{Number}
+use Rattle.numbers.specs.declared.number.Number.the-variants.{Zero, Finite}
+use Rattle.numbers.specs.declared.task.Mode.{Mode}
+use Rattle.numbers.specs.declared.task.Mode.the-variants.{Trunc}
+use Rattle.numbers.specs.declared.task.Task.{Task}
+use Rattle.numbers.specs.declared.task.Task.the-variants.{Round, Exact}
+use Rattle.numbers.proofs.Laws.Exponent.{exponent-reaches, exponent-below}
+use Rattle.numbers.proofs.Laws.Powers.{power-twice, word-parts}
+
+-- the whole number is the quotient, or one more
+at-most-one : (b : Bool) → cond b 1 0 ≤ 1
+at-most-one true = omega arith
+at-most-one false = omega arith
+
+whole-low : (mode : Mode) (s : Bool) (a b : ℕ) → a / b ≤ wholeOf mode s a b
+unfolding wholeOf
+whole-low mode s a b = omega arith
+
+whole-high : (mode : Mode) (s : Bool) (a b : ℕ) → wholeOf mode s a b ≤ a / b + 1
+unfolding wholeOf
+whole-high mode s a b = omega (arith, at-most-one (goesUp mode s (a / b) (a % b) b))
+
+-- a whole number from 2^(n - 1) to 2^n is placed with its top bit set
+placed-fits : (s : Bool) (e : ℤ) (n q : ℕ) → 1 ≤ n → n ≤ 64 → 2 ^ (n - 1) ≤ q → q ≤ 2 ^ n
+    → (f : ℤ) × (S : ℕ) × (placed s e n q ≡ Finite s f S) × (isSignificand S ≡ true)
+unfolding placed isSignificand
+placed-fits s e n q n0 n1 low high = go (ℕ-discrete q (2 ^ n))
+  where
+    word : 2 ^ n * 2 ^ (64 - n) ≡ 2 ^ 64
+    word = sym (pow-add 2 n (64 - n)) ∙ ap (λ (m : ℕ). 2 ^ m) (let l : n + (64 - n) ≡ 64 = omega arith in l)
+
+    go : Dec (q ≡ 2 ^ n) → (f : ℤ) × (S : ℕ) × (placed s e n q ≡ Finite s f S) × (isSignificand S ≡ true)
+    go (yes k) = (sucℤ e, 2 ^ 63, rw (eq-eqb q (2 ^ n) k), refl)
+    go (no k) = (
+      e,
+      q * 2 ^ (64 - n),
+      rw (ne-eqb q (2 ^ n) k),
+      rw (
+        le-leb (2 ^ 63) (q * 2 ^ (64 - n)) (le-trans (le-of-eq (sym (word-parts n n0 n1))) (mul-le-mul-right (2 ^ (64 - n)) low)),
+        lt-ltb (q * 2 ^ (64 - n)) (2 ^ 64) (lt-of-lt-of-le (mul-lt-mul-of-pos-right {k = 2 ^ (64 - n)} (below q (2 ^ n) high k) (pow-pos (64 - n))) (le-of-eq word)),
+      ),
+    )
+      where
+        below : (a b : ℕ) → a ≤ b → (a ≡ b → ⊥) → a < b
+        below a b l m = omega arith
+
+-- the scaled magnitude lies in [2^(n - 1), 2^n)
+module _ (a b n : ℕ) (a0 : 0 < a) (b0 : 0 < b) (n0 : 1 ≤ n) where
+  pub scaled-low : 2 ^ (n - 1) * scaledDenominator (exponentOf a b) b ≤ scaledNumerator n (exponentOf a b) a
+  unfolding scaledNumerator scaledDenominator
+  scaled-low = omega (arith, mul-le-mul-right (2 ^ (n - 1)) (exponent-reaches a b a0 b0))
+
+  pub scaled-high : scaledNumerator n (exponentOf a b) a < 2 ^ n * scaledDenominator (exponentOf a b) b
+  unfolding scaledNumerator scaledDenominator
+  scaled-high =
+      omega (arith, mul-lt-mul-of-pos-right {k = 2 ^ (n - 1)} (exponent-below a b a0 b0) (pow-pos (n - 1)), ap (λ (m : ℕ). m * (b * up (exponentOf a b))) (power-twice n n0))
+
+  bottom0 : 0 < scaledDenominator (exponentOf a b) b
+  unfolding scaledDenominator
+  bottom0 = mul-pos b0 (up-pos (exponentOf a b))
+
+-- a rounding to n bits has its top bit set, whatever its exponent
+pub round-fits : (mode : Mode) (n : ℕ) (x : Fraction) → IsFraction x → 1 ≤ n → n ≤ 64 → isFit (λ (e : ℤ). true) (round mode n x) ≡ true
+unfolding IsFraction isFit round roundedAt
+round-fits mode n x b0 n0 n1 = go (natAbs (x .numerator)) refl
+  where
+    go : (a : ℕ) → natAbs (x .numerator) ≡ a → isFit (λ (e : ℤ). true) (round mode n x) ≡ true
+    go zero k = rw k
+    go (suc a) k =
+        let m = natAbs (x .numerator) in
+        let s = isNegative (x .numerator) in
+        let e = exponentOf m (x .denominator) in
+        let m0 : 0 < m = omega arith in
+        let A = scaledNumerator n e m in
+        let B = scaledDenominator e (x .denominator) in
+        let B0 : 0 < B = bottom0 m (x .denominator) n m0 b0 n0 in
+        let low : 2 ^ (n - 1) ≤ A / B = le-div-iff-mul-le B0 .1 (scaled-low m (x .denominator) n m0 b0 n0) in
+        let high : A / B < 2 ^ n = div-lt-iff-lt-mul B0 .1 (scaled-high m (x .denominator) n m0 b0 n0) in
+        let p = placed-fits s e n (wholeOf mode s A B) n0 n1 (le-trans low (whole-low mode s A B)) (le-trans (whole-high mode s A B) (grown high)) in
+        rw (ne-eqb m 0 (λ (z : m ≡ 0). omega arith), p .2) (p .3)
+      where
+        grown : {a b : ℕ} → a < b → a + 1 ≤ b
+        grown l = omega arith
+
+zero-is : isWorking Zero ≡ true
+unfolding isWorking isFit
+zero-is = refl
+
+-- a number that passes row 7 is working
+checked-working : (y z : Number) → isFit (λ (e : ℤ). true) y ≡ true → checked y ≡ given z → isWorking z ≡ true
+unfolding isFit isWorking checked
+checked-working Zero z h k = rw (sym (same z k))
+  where
+    same : (z : Number) → given Zero ≡ given z → Zero ≡ z
+    same z k = cc
+checked-working (Finite s e S) z h k = go (isWorkingExponent e) refl k
+  where
+    go : (w : Bool) → isWorkingExponent e ≡ w → cond w (given (Finite s e S)) (refused 7) ≡ given z → isWorking z ≡ true
+    go true w k = let l : z ≡ Finite s e S = cc in rw (l, w) h
+    go false w k = absurd (let z : _≡_ {A = ℕ} 0 1 = cc in omega arith)
+
+-- trunc keeps the exponent, so a claim that passes row 7 is working
+trunc-working : (n : ℕ) (x : Fraction) → IsFraction x → 1 ≤ n → n ≤ 64 → isWorkingExponent (exponentOf (natAbs (x .numerator)) (x .denominator)) ≡ true → isWorking (round Trunc n x) ≡ true
+unfolding IsFraction isFit isWorking round roundedAt wholeOf goesUp placed
+trunc-working n x b0 n0 n1 w = go (natAbs (x .numerator)) refl (round-fits Trunc n x b0 n0 n1)
+  where
+    go : (a : ℕ) → natAbs (x .numerator) ≡ a → isFit (λ (e : ℤ). true) (round Trunc n x) ≡ true → isWorking (round Trunc n x) ≡ true
+    go zero k f = rw k
+    go (suc a) k f =
+        let m = natAbs (x .numerator) in
+        let e = exponentOf m (x .denominator) in
+        let m0 : 0 < m = omega arith in
+        let q = scaledNumerator n e m / scaledDenominator e (x .denominator) in
+        let high : q < 2 ^ n = div-lt-iff-lt-mul (bottom0 m (x .denominator) n m0 b0 n0) .1 (scaled-high m (x .denominator) n m0 b0 n0) in
+        let some = ne-eqb m 0 (λ (z : m ≡ 0). omega arith) in
+        let stays = ne-eqb (q + 0) (2 ^ n) (λ (z : q + 0 ≡ 2 ^ n). omega arith) in
+        rw (some, stays, w) (rw (some, stays) at f)
+
+claimed-working : (n : ℕ) (x : Fraction) (y : Number) → IsFraction x → 1 ≤ n → n ≤ 64 → claimed n x ≡ given y → isWorking y ≡ true
+unfolding claimed
+claimed-working n x y x0 n0 n1 h =
+    go (eqb (natAbs (x .numerator)) 0) (isWorkingExponent (exponentOf (natAbs (x .numerator)) (x .denominator))) (hasAtMostBits n (natAbs (x .numerator)) (x .denominator)) refl h
+  where
+    zero-working : y ≡ Zero → isWorking y ≡ true
+    zero-working e = rw e zero-is
+
+    go : (z w b : Bool) → isWorkingExponent (exponentOf (natAbs (x .numerator)) (x .denominator)) ≡ w → cond z (given Zero) (cond w (cond b (given (round Trunc n x)) (refused 8)) (refused 7)) ≡ given y → isWorking y ≡ true
+    go true w b e k = zero-working (cc)
+    go false true true e k = let l : y ≡ round Trunc n x = cc in rw l (trunc-working n x x0 n0 n1 e)
+    go false true false e k = absurd (let z : _≡_ {A = ℕ} 0 1 = cc in omega arith)
+    go false false b e k = absurd (let z : _≡_ {A = ℕ} 0 1 = cc in omega arith)
+
+-- what a task gives is a working number
+pub given-working : (task : Task) (x : Fraction) (y : Number) → IsFraction x → 1 ≤ precisionOf task → precisionOf task ≤ 64 → rounded task x ≡ given y → isWorking y ≡ true
+unfolding rounded precisionOf
+given-working (Round r) x y x0 n0 n1 h = checked-working (round (r .mode) (r .precision) x) y (round-fits (r .mode) (r .precision) x x0 n0 n1) h
+given-working (Exact c) x y x0 n0 n1 h = claimed-working (c .precision) x y x0 n0 n1 h

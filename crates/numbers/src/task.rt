@@ -1,0 +1,64 @@
+// The task of a step: a rounding mode with a precision, or an exactness claim.
+ghost use mathlib.Core.Path.{_≡_};
+ghost use Prim.Native.Nat.{_≤_};
+ghost use Rattle.numbers.specs.Rounding.{taskOf};
+
+pub enum Mode {
+    Trunc,
+    Away,
+    Near,
+    Sticky,
+    Up,
+    Down,
+}
+
+// A rounding mode with a precision.
+pub struct Rounding {
+    pub mode: Mode,
+    pub precision: u32,
+}
+
+// An exactness claim: the value has at most this many significant bits.
+pub struct Claim {
+    pub precision: u32,
+}
+
+// The task of a step.
+pub enum Task {
+    Round(Rounding),
+    Exact(Claim),
+}
+
+// The task that a code from 0 to 6 and a precision name.
+pub(crate) fn task_of(code: u32, precision: u32) -> Task
+    requires { ⌜ code ≤ 6 ⌝ }
+    ensures { λ r. ⌜ r ≡ taskOf code precision ⌝ }
+{
+    match code {
+        0 => Task::Round(Rounding {
+            mode: Mode::Trunc,
+            precision,
+        }),
+        1 => Task::Round(Rounding {
+            mode: Mode::Away,
+            precision,
+        }),
+        2 => Task::Round(Rounding {
+            mode: Mode::Near,
+            precision,
+        }),
+        3 => Task::Round(Rounding {
+            mode: Mode::Sticky,
+            precision,
+        }),
+        4 => Task::Round(Rounding {
+            mode: Mode::Up,
+            precision,
+        }),
+        5 => Task::Round(Rounding {
+            mode: Mode::Down,
+            precision,
+        }),
+        _ => Task::Exact(Claim { precision }),
+    }
+}

@@ -52,14 +52,14 @@ results =
 
 -- 2, 1, 2; refused 7, refused 8; 3/2, then 2, but once 1
 pub known : results ≡ (
-  given (Finite false (pos 1) 0x8000000000000000)
-  ∷ given (Finite false (pos 0) 0x8000000000000000)
-  ∷ given (Finite false (pos 1) 0x8000000000000000)
-  ∷ refused 7
-  ∷ refused 8
-  ∷ given (Finite false (pos 0) 0xC000000000000000)
-  ∷ given (Finite false (pos 1) 0x8000000000000000)
-  ∷ given (Finite false (pos 0) 0x8000000000000000)
-  ∷ [])
+    given (Finite false (pos 1) 0x8000000000000000)
+    ∷ given (Finite false (pos 0) 0x8000000000000000)
+    ∷ given (Finite false (pos 1) 0x8000000000000000)
+    ∷ refused 7
+    ∷ refused 8
+    ∷ given (Finite false (pos 0) 0xC000000000000000)
+    ∷ given (Finite false (pos 1) 0x8000000000000000)
+    ∷ given (Finite false (pos 0) 0x8000000000000000)
+    ∷ [])
 unfolding results sumOf productOf operationOf unlessRefused isPrecision isWorking isFit isBetween isSignificand isWorkingExponent taskOf rounded checked claimed round roundedAt hasAtMostBits isNegative placed wholeOf goesUp scaledNumerator scaledDenominator exponentOf settled size value signed sum product
 known = refl

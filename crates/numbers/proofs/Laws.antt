@@ -17,6 +17,7 @@ pub mod Misses
 pub mod Rounded
 pub mod Bounds
 pub mod Fits
+pub mod Bits
 -- The code's own forms: biased exponents, two-word magnitudes, magnitudes with their top bit set, operands, alignment, refusals
 pub mod Bias
 pub mod Words

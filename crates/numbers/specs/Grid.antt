@@ -6,7 +6,6 @@ use mathlib.Core.Bool.{Bool, true, false}
 use Prim.Native.Nat.{ℕ, _+_, _-_, _*_, _^_, _<_}
 use lib.Ieee.{up, down}
 use lib.IntN.{ℤ, pos, natAbs, _*ℤ_}
-use lib.Signed.{_<ℤ_}
 use Rattle.numbers.specs.Fraction.{Fraction, AtMost, signed}
 use Rattle.numbers.specs.Rounding.{exponentOf, round}
 use Rattle.numbers.specs.Answer.{claimed}

@@ -15,13 +15,14 @@ use super::number::negated;
 use super::operand::Operand;
 use super::operand::operand_of;
 use super::rounding::rounded;
+use super::sum::rounded_sum;
 use super::task::Task;
 use super::task::task_of;
-use super::sum::rounded_sum;
 use super::words;
 
 // The last mode code, and the largest precision.
 const LAST_CODE: u32 = 6;
+
 const LARGEST_PRECISION: u32 = 64;
 
 // a + b.

@@ -10,7 +10,7 @@ use lib.Dec.{ltb, lit≤}
 use lib.Pow.{pow-add, pow-pos, pow-mono}
 use Rattle.numbers.specs.Rounding.{precisionOf}
 use Rattle.numbers.specs.Fraction.{IsFraction, signed, sum}
-use Rattle.numbers.specs.Answer.{rounded}
+use Rattle.numbers.specs.Answer.{Outcome, rounded}
 use Rattle.numbers.specs.Grid.{InCell, digit}
 use Rattle.numbers.specs.Words.{lastBit, scaledValue, oddOf, operandValue, IsOperand, IsAligned}
 use Rattle.numbers.specs.declared.operand.Operand.{Operand}
@@ -71,12 +71,12 @@ module _ (large small : Operand) (h : IsAligned large small) (task : Task) (n0 :
   cell : InCell rest (small .significand * 2 ^ 63) Y (2 ^ (large .exponent - small .exponent))
   cell = rw (shifted, dropped) (cell-of (small .significand * 2 ^ 63) (2 ^ (large .exponent - small .exponent)) (pow-pos (large .exponent - small .exponent)))
 
-  pub sum-fits : large .significand * 2 ^ 63 + Y < 2 ^ 128
+  sum-fits : large .significand * 2 ^ 63 + Y < 2 ^ 128
   sum-fits =
       two-words (large .significand) (small .significand) Y (2 ^ 63) (2 ^ 64) (pow-pos 63) (h .large-word) (h .small-word)
       (rw shifted (div-le-self (small .significand * 2 ^ 63) (2 ^ (large .exponent - small .exponent))))
 
-  pub borrow-fits : digit rest + Y ≤ large .significand * 2 ^ 63
+  borrow-fits : digit rest + Y ≤ large .significand * 2 ^ 63
   borrow-fits = room rest (large .significand) (small .significand) Y (2 ^ 63) (2 ^ (large .exponent - small .exponent)) (pow-pos (large .exponent - small .exponent)) (h .larger) cell
 
   -- where there is a rest, F has more bits than the task asks
@@ -90,7 +90,7 @@ module _ (large small : Operand) (h : IsAligned large small) (task : Task) (n0 :
   grid-cell : InCell rest (small .significand * 2 ^ (small .exponent + 65598)) Y (2 ^ (large .exponent + 65535))
   grid-cell = shifted-cell rest (small .significand) (small .exponent) (large .exponent) Y (h .lower) cell
 
-  pub added-rounds : small .negative ≡ large .negative
+  added-rounds : small .negative ≡ large .negative
       → rounded task (scaledValue (large .negative) (cond rest (oddOf (large .significand * 2 ^ 63 + Y)) (large .significand * 2 ^ 63 + Y)) (large .exponent + 65535)) ≡ rounded task (sum (operandValue large) (operandValue small))
   unfolding operandValue scaledValue IsFraction
   added-rounds sign =
@@ -103,7 +103,7 @@ module _ (large small : Operand) (h : IsAligned large small) (task : Task) (n0 :
       (sym (same-outcome task (sum (fraction (signed s A) (2 ^ lastBit)) (fraction (signed s B) (2 ^ lastBit))) (fraction (signed s (A + B)) (2 ^ lastBit))
       (sum-fraction (fraction (signed s A) (2 ^ lastBit)) (fraction (signed s B) (2 ^ lastBit)) (pow-pos lastBit) (pow-pos lastBit)) (pow-pos lastBit) n0 (same-sum s A B (2 ^ lastBit))))
 
-  pub subtracted-rounds : small .negative ≡ not (large .negative) → (m : ℕ) → m + digit rest + Y ≡ large .significand * 2 ^ 63
+  subtracted-rounds : small .negative ≡ not (large .negative) → (m : ℕ) → m + digit rest + Y ≡ large .significand * 2 ^ 63
       → rounded task (scaledValue (large .negative) (cond rest (oddOf m) m) (large .exponent + 65535)) ≡ rounded task (sum (operandValue large) (operandValue small))
   unfolding operandValue scaledValue IsFraction
   subtracted-rounds sign m e =
@@ -118,6 +118,40 @@ module _ (large small : Operand) (h : IsAligned large small) (task : Task) (n0 :
       ∙ rw sign
       (sym (same-outcome task (sum (fraction (signed s A) (2 ^ lastBit)) (fraction (signed (not s) B) (2 ^ lastBit))) (fraction (signed s (A - B)) (2 ^ lastBit))
       (sum-fraction (fraction (signed s A) (2 ^ lastBit)) (fraction (signed (not s) B) (2 ^ lastBit)) (pow-pos lastBit) (pow-pos lastBit)) (pow-pos lastBit) n0 (other-sum s A B (2 ^ lastBit) (rw on-grid less))))
+
+-- ---- from the code's equations: T, S and Y are the larger operand raised, the smaller one raised, and the smaller one shifted
+
+module _ (large small : Operand) (h : IsAligned large small) (task : Task) (n0 : 1 ≤ precisionOf task) (n1 : precisionOf task ≤ 64) (T S Y : ℕ) (rest : Bool)
+    (top : T ≡ large .significand * 2 ^ 63) (raised : S ≡ small .significand * 2 ^ 63)
+    (shifted : Y ≡ S / 2 ^ (large .exponent - small .exponent)) (dropped : rest ≡ ltb 0 (S % 2 ^ (large .exponent - small .exponent))) where
+  shifted-is : Y ≡ small .significand * 2 ^ 63 / 2 ^ (large .exponent - small .exponent)
+  shifted-is = shifted ∙ ap (λ (n : ℕ). n / 2 ^ (large .exponent - small .exponent)) raised
+
+  dropped-is : rest ≡ ltb 0 (small .significand * 2 ^ 63 % 2 ^ (large .exponent - small .exponent))
+  dropped-is = dropped ∙ ap (λ (n : ℕ). ltb 0 (n % 2 ^ (large .exponent - small .exponent))) raised
+
+  -- the sum, and its answer from the magnitude M and the odd one W
+  pub added-fits : T + Y < 2 ^ 128
+  added-fits = rw top (sum-fits large small h task n0 n1 Y rest shifted-is dropped-is)
+
+  pub added-answer : small .negative ≡ large .negative → (M W : ℕ) (out : Outcome) → M ≡ T + Y → W ≡ cond rest (oddOf M) M → out ≡ rounded task (scaledValue (large .negative) W (large .exponent + 65535))
+      → out ≡ rounded task (sum (operandValue large) (operandValue small))
+  added-answer sign M W out m w o = o ∙ rw (w, m, top) (added-rounds large small h task n0 n1 Y rest shifted-is dropped-is sign)
+
+  -- the difference, less Y and then less the borrow b
+  borrow-room : digit rest + Y ≤ T
+  borrow-room = rw top (borrow-fits large small h task n0 n1 Y rest shifted-is dropped-is)
+
+  pub subtracted-fits : Y ≤ T
+  subtracted-fits = let r = borrow-room in omega arith
+
+  pub borrowed-fits : (less b : ℕ) → less + Y ≡ T → b ≡ digit rest → b ≤ less
+  borrowed-fits less b e k = let r = borrow-room in omega arith
+
+  pub subtracted-answer : small .negative ≡ not (large .negative) → (less b M W : ℕ) (out : Outcome) → less + Y ≡ T → b ≡ digit rest → M + b ≡ less → W ≡ cond rest (oddOf M) M
+      → out ≡ rounded task (scaledValue (large .negative) W (large .exponent + 65535)) → out ≡ rounded task (sum (operandValue large) (operandValue small))
+  subtracted-answer sign less b M W out l k m w o =
+      o ∙ rw w (subtracted-rounds large small h task n0 n1 Y rest shifted-is dropped-is sign M (ap (λ (n : ℕ). M + n + Y) (sym k) ∙ ap (λ (n : ℕ). n + Y) m ∙ l ∙ top))
 
 -- ---- which operand is the larger
 

@@ -3,7 +3,7 @@ use mathlib.Core.Path.{_≡_, sym, ap, _∙_}
 use mathlib.Core.Bool.{Bool, true, false}
 use Prim.Native.Nat.{ℕ, _-_, _*_, _%_, _^_, _≤_, _<_}
 use native.Mathlib.Omega.{arith}
-use native.Mathlib.Nat.{mul-pos, mul-le-mul-right, mul-lt-mul-of-pos-right, lt-of-lt-of-le, lt-of-mul-lt-mul-right, pos-of-ne-zero}
+use native.Mathlib.Nat.{mul-pos, mul-le-mul-right, mul-lt-mul-of-pos-right, lt-of-lt-of-le, lt-of-mul-lt-mul-right, pos-of-ne-zero, zero-mod}
 use lib.Dec.{le→leb, lt→ltb}
 use lib.IntN.{ℤ, natAbs}
 use lib.Signed.{leZ-yes, ltZ-yes}
@@ -99,12 +99,17 @@ module _ (x : Fraction) (n : ℕ) (x0 : IsFraction x) (n0 : 1 ≤ n) (n1 : n ≤
       (value (round mode n x) .denominator) (pow-pos (n - 1)) x0 (missed mode) (unit nz)))
 
   -- sticky gives an odd whole number where there was a fraction
-  pub sticky-odd : 0 < natAbs (x .numerator) → hasAtMostBits n (natAbs (x .numerator)) (x .denominator) ≡ false
+  pub sticky-odd : hasAtMostBits n (natAbs (x .numerator)) (x .denominator) ≡ false
       → (q : ℕ) × (round Sticky n x ≡ Finite (isNegative (x .numerator)) (exponentOf (natAbs (x .numerator)) (x .denominator)) (q * 2 ^ (64 - n))) × (q % 2 ≡ 1)
-  unfolding hasAtMostBits round roundedAt placed
-  sticky-odd nz h =
-      (whole Sticky n x, rw (ne-eqb (natAbs (x .numerator)) 0 (λ (z : natAbs (x .numerator) ≡ 0). omega arith), ne-eqb (whole Sticky n x) (2 ^ n) no-carry), odd)
+  unfolding hasAtMostBits round roundedAt placed scaledNumerator
+  sticky-odd h =
+      (whole Sticky n x, rw (ne-eqb (natAbs (x .numerator)) 0 not-zero, ne-eqb (whole Sticky n x) (2 ^ n) no-carry), odd)
     where
+      not-zero : natAbs (x .numerator) ≡ 0 → ⊥
+      not-zero z =
+          eqb-false (top n x % bottom x) 0 h
+          (ap (λ (m : ℕ). m * 2 ^ (n - 1) * down (exponent x) % bottom x) z ∙ ap (λ (m : ℕ). m % bottom x) (let k : 0 * 2 ^ (n - 1) * down (exponent x) ≡ 0 = omega arith in k) ∙ zero-mod (bottom x))
+
       odd : whole Sticky n x % 2 ≡ 1
       odd = whole-sticky (top n x) (bottom x) bottom0 (isNegative (x .numerator)) (pos-of-ne-zero (eqb-false (top n x % bottom x) 0 h))
 

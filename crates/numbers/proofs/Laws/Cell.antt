@@ -1,4 +1,4 @@
--- The cell law: what a fraction is rounded to depends only on its sign and on its cell, on any grid of a power of two that is fine enough.
+-- Two fractions of one sign in one cell are rounded alike, on any grid of a power of two that is fine enough.
 -- The grid is 2^i / 2^o. The fraction's magnitude a / b lies in the cell F where a × 2^o does on the grid b × 2^i.
 use mathlib.Core.Path.{_≡_, sym, ap, _∙_}
 use mathlib.Core.Bool.{Bool, true, false, cond}

@@ -1,5 +1,5 @@
 -- What a rounding gives is fit: its significand has the top bit set, and an outcome that is a number is a working number.
-use mathlib.Core.Path.{_≡_, refl, sym, ap, _∙_}
+use mathlib.Core.Path.{_≡_, refl, sym, ap}
 use mathlib.Core.Bool.{Bool, true, false, cond}
 use Prim.Native.Nat.{ℕ, zero, suc, _+_, _-_, _*_, _/_, _%_, _^_, _≤_, _<_}
 use native.Mathlib.Decide.{ℕ-discrete}
@@ -10,7 +10,7 @@ use lib.Dec.{eqb}
 use lib.IntN.{ℤ, natAbs, sucℤ}
 use lib.Ieee.{up}
 use lib.Ieee.Fits.{up-pos}
-use lib.Pow.{pow-add, pow-pos}
+use lib.Pow.{pow-pos}
 use Rattle.numbers.specs.Number.{isSignificand, isFit, isWorkingExponent, isWorking}
 use Rattle.numbers.specs.Fraction.{Fraction, IsFraction}
 use Rattle.numbers.specs.Rounding.{exponentOf, scaledNumerator, scaledDenominator, goesUp, wholeOf, placed, roundedAt, isNegative, round, hasAtMostBits, precisionOf}
@@ -22,7 +22,7 @@ use Rattle.numbers.specs.declared.task.Mode.the-variants.{Trunc}
 use Rattle.numbers.specs.declared.task.Task.{Task}
 use Rattle.numbers.specs.declared.task.Task.the-variants.{Round, Exact}
 use Rattle.numbers.proofs.Laws.Exponent.{exponent-reaches, exponent-below}
-use Rattle.numbers.proofs.Laws.Powers.{power-twice, word-parts}
+use Rattle.numbers.proofs.Laws.Powers.{power-twice, word-parts, word-power}
 
 -- the whole number is the quotient, or one more
 at-most-one : (b : Bool) → cond b 1 0 ≤ 1
@@ -43,9 +43,6 @@ placed-fits : (s : Bool) (e : ℤ) (n q : ℕ) → 1 ≤ n → n ≤ 64 → 2 ^ 
 unfolding placed isSignificand
 placed-fits s e n q n0 n1 low high = go (ℕ-discrete q (2 ^ n))
   where
-    word : 2 ^ n * 2 ^ (64 - n) ≡ 2 ^ 64
-    word = sym (pow-add 2 n (64 - n)) ∙ ap (λ (m : ℕ). 2 ^ m) (let l : n + (64 - n) ≡ 64 = omega arith in l)
-
     go : Dec (q ≡ 2 ^ n) → (f : ℤ) × (S : ℕ) × (placed s e n q ≡ Finite s f S) × (isSignificand S ≡ true)
     go (yes k) = (sucℤ e, 2 ^ 63, rw (eq-eqb q (2 ^ n) k), refl)
     go (no k) = (
@@ -54,12 +51,16 @@ placed-fits s e n q n0 n1 low high = go (ℕ-discrete q (2 ^ n))
       rw (ne-eqb q (2 ^ n) k),
       rw (
         le-leb (2 ^ 63) (q * 2 ^ (64 - n)) (le-trans (le-of-eq (sym (word-parts n n0 n1))) (mul-le-mul-right (2 ^ (64 - n)) low)),
-        lt-ltb (q * 2 ^ (64 - n)) (2 ^ 64) (lt-of-lt-of-le (mul-lt-mul-of-pos-right {k = 2 ^ (64 - n)} (below q (2 ^ n) high k) (pow-pos (64 - n))) (le-of-eq word)),
+        lt-ltb (q * 2 ^ (64 - n)) (2 ^ 64) (lt-of-lt-of-le (mul-lt-mul-of-pos-right {k = 2 ^ (64 - n)} (below q (2 ^ n) high k) (pow-pos (64 - n))) (le-of-eq (word-power n n1))),
       ),
     )
       where
         below : (a b : ℕ) → a ≤ b → (a ≡ b → ⊥) → a < b
         below a b l m = omega arith
+
+round-zero : (mode : Mode) (n : ℕ) (x : Fraction) → natAbs (x .numerator) ≡ 0 → round mode n x ≡ Zero
+unfolding round
+round-zero mode n x e = rw e
 
 -- the scaled magnitude lies in [2^(n - 1), 2^n)
 module _ (a b n : ℕ) (a0 : 0 < a) (b0 : 0 < b) (n0 : 1 ≤ n) where
@@ -76,28 +77,35 @@ module _ (a b n : ℕ) (a0 : 0 < a) (b0 : 0 < b) (n0 : 1 ≤ n) where
   unfolding scaledDenominator
   bottom0 = mul-pos b0 (up-pos (exponentOf a b))
 
+-- what a nonzero fraction is rounded to: the sign and the exponent are its own, and the whole number has n bits, or carries
+pub round-placed : (mode : Mode) (n : ℕ) (x : Fraction) → IsFraction x → 1 ≤ n → 0 < natAbs (x .numerator)
+    → (q : ℕ) × (round mode n x ≡ placed (isNegative (x .numerator)) (exponentOf (natAbs (x .numerator)) (x .denominator)) n q) × (2 ^ (n - 1) ≤ q) × (q ≤ 2 ^ n)
+unfolding IsFraction round roundedAt
+round-placed mode n x b0 n0 m0 =
+    let m = natAbs (x .numerator) in
+    let s = isNegative (x .numerator) in
+    let e = exponentOf m (x .denominator) in
+    let A = scaledNumerator n e m in
+    let B = scaledDenominator e (x .denominator) in
+    let B0 : 0 < B = bottom0 m (x .denominator) n m0 b0 n0 in
+    let low : 2 ^ (n - 1) ≤ A / B = le-div-iff-mul-le B0 .1 (scaled-low m (x .denominator) n m0 b0 n0) in
+    let high : A / B < 2 ^ n = div-lt-iff-lt-mul B0 .1 (scaled-high m (x .denominator) n m0 b0 n0) in
+    (wholeOf mode s A B, rw (ne-eqb m 0 (λ (z : m ≡ 0). omega arith)), le-trans low (whole-low mode s A B), le-trans (whole-high mode s A B) (grown high))
+  where
+    grown : {a b : ℕ} → a < b → a + 1 ≤ b
+    grown l = omega arith
+
 -- a rounding to n bits has its top bit set, whatever its exponent
 pub round-fits : (mode : Mode) (n : ℕ) (x : Fraction) → IsFraction x → 1 ≤ n → n ≤ 64 → isFit (λ (e : ℤ). true) (round mode n x) ≡ true
-unfolding IsFraction isFit round roundedAt
+unfolding isFit
 round-fits mode n x b0 n0 n1 = go (natAbs (x .numerator)) refl
   where
     go : (a : ℕ) → natAbs (x .numerator) ≡ a → isFit (λ (e : ℤ). true) (round mode n x) ≡ true
-    go zero k = rw k
+    go zero k = rw (round-zero mode n x k)
     go (suc a) k =
-        let m = natAbs (x .numerator) in
-        let s = isNegative (x .numerator) in
-        let e = exponentOf m (x .denominator) in
-        let m0 : 0 < m = omega arith in
-        let A = scaledNumerator n e m in
-        let B = scaledDenominator e (x .denominator) in
-        let B0 : 0 < B = bottom0 m (x .denominator) n m0 b0 n0 in
-        let low : 2 ^ (n - 1) ≤ A / B = le-div-iff-mul-le B0 .1 (scaled-low m (x .denominator) n m0 b0 n0) in
-        let high : A / B < 2 ^ n = div-lt-iff-lt-mul B0 .1 (scaled-high m (x .denominator) n m0 b0 n0) in
-        let p = placed-fits s e n (wholeOf mode s A B) n0 n1 (le-trans low (whole-low mode s A B)) (le-trans (whole-high mode s A B) (grown high)) in
-        rw (ne-eqb m 0 (λ (z : m ≡ 0). omega arith), p .2) (p .3)
-      where
-        grown : {a b : ℕ} → a < b → a + 1 ≤ b
-        grown l = omega arith
+        let r = round-placed mode n x b0 n0 (omega arith) in
+        let p = placed-fits (isNegative (x .numerator)) (exponentOf (natAbs (x .numerator)) (x .denominator)) n (r .0) n0 n1 (r .2) (r .3) in
+        rw (r .1, p .2) (p .3)
 
 zero-is : isWorking Zero ≡ true
 unfolding isWorking isFit

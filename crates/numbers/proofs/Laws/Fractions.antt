@@ -1,13 +1,13 @@
 -- The exact sum and product of fractions depend on their values alone, and what they are over one denominator.
-use mathlib.Core.Path.{_≡_, sym, ap, ap₂, _∙_}
+use mathlib.Core.Path.{_≡_, refl, sym, ap, ap₂, _∙_}
 use mathlib.Core.Bool.{Bool, true, false, not, Bool·not-not}
-use Prim.Native.Nat.{ℕ, _+_, _-_, _*_, _≤_}
+use Prim.Native.Nat.{ℕ, zero, suc, _+_, _-_, _*_, _≤_, _<_}
 use native.Mathlib.Decide.{decLe}
-use native.Mathlib.Nat.{le-of-lt, lt-of-not-le, add-mul, mul-comm, mul-assoc, mul-sub, mul-le-mul-right, mul-pos}
+use native.Mathlib.Nat.{zero-mul, le-of-lt, lt-of-not-le, add-mul, mul-comm, mul-assoc, mul-sub, mul-le-mul-right, mul-pos}
 use native.Mathlib.Omega.{arith}
 use lib.Ieee.{unlike}
-use lib.IntN.{ℤ, pos, natAbs, +ℤ-comm, _+ℤ_, _*ℤ_}
-use Rattle.numbers.specs.Fraction.{Fraction, IsFraction, Equal, signed, sum, product}
+use lib.IntN.{ℤ, pos, negsuc, negℤ, negℤ-negℤ, natAbs, +ℤ-comm, *ℤ-negsuc, _+ℤ_, _*ℤ_}
+use Rattle.numbers.specs.Fraction.{Fraction, IsFraction, Equal, signed, sum, product, dividedBy, quotient}
 use Rattle.numbers.specs.Rounding.{isNegative}
 use Rattle.numbers.proofs.Laws.Signs.{signed-abs, signed-times, negative-product, same-sign, other-sign}
 use Rattle.numbers.proofs.Laws.Value.{equal-magnitudes, equal-signs}
@@ -117,3 +117,37 @@ other-sum s a b d h =
     ∙ signed-times s (a * d - b * d) d
     ∙ ap (signed s) (let k : a ≡ b + (a - b) = omega arith in let l : a * d ≡ b * d + (a - b) * d = omega (arith, ap (λ (n : ℕ). n * d) k) in omega (arith, ap (λ (n : ℕ). n * d) (let m : a * d - b * d ≡ (a - b) * d = omega arith in m)))
     ∙ sym (signed-times s (a - b) (d * d))
+
+-- ---- the quotient
+
+negative-times : (z : ℤ) (n : ℕ) → negℤ z *ℤ pos n ≡ negℤ (z *ℤ pos n)
+negative-times (pos zero) n = ap pos (zero-mul n) ∙ sym (ap (λ (m : ℕ). negℤ (pos m)) (zero-mul n))
+negative-times (pos (suc a)) n = refl
+negative-times (negsuc a) n = sym (negℤ-negℤ (pos (suc a * n)))
+
+two-turns : (z : ℤ) (q : ℕ) → negℤ z *ℤ negsuc q ≡ z *ℤ pos (suc q)
+two-turns z q = *ℤ-negsuc (negℤ z) q ∙ ap negℤ (negative-times z (suc q)) ∙ negℤ-negℤ (z *ℤ pos (suc q))
+
+pub quotient-fraction : (x y : Fraction) → IsFraction x → 0 < natAbs (y .numerator) → IsFraction (quotient x y)
+unfolding IsFraction quotient dividedBy
+quotient-fraction x y x0 y0 = go (y .numerator) y0
+  where
+    go : (q : ℤ) → 0 < natAbs q → 0 < dividedBy (x .numerator *ℤ pos (y .denominator)) (x .denominator) q .denominator
+    go (pos q) q0 = mul-pos x0 q0
+    go (negsuc q) q0 = mul-pos x0 q0
+
+-- the quotient times its divisor is the dividend
+pub quotient-product : (x y : Fraction) → Equal (product (quotient x y) y) x
+unfolding Equal product quotient dividedBy
+quotient-product x y = go (y .numerator) refl
+  where
+    level : (d a q : ℕ) (z : ℤ) → z *ℤ pos d *ℤ pos q *ℤ pos a ≡ z *ℤ pos (a * q * d)
+    level d a q z = simp times-times (ap (λ (m : ℕ). z *ℤ pos m) (omega arith))
+
+    go : (q : ℤ) → y .numerator ≡ q
+        → dividedBy (x .numerator *ℤ pos (y .denominator)) (x .denominator) q .numerator *ℤ q *ℤ pos (x .denominator)
+        ≡ x .numerator *ℤ pos (dividedBy (x .numerator *ℤ pos (y .denominator)) (x .denominator) q .denominator * y .denominator)
+    go (pos q) e = level (y .denominator) (x .denominator) q (x .numerator)
+    go (negsuc q) e =
+        ap (λ (z : ℤ). z *ℤ pos (x .denominator)) (two-turns (x .numerator *ℤ pos (y .denominator)) q)
+        ∙ level (y .denominator) (x .denominator) (suc q) (x .numerator)

@@ -23,6 +23,9 @@ power-twice n n0 = ap (λ (m : ℕ). 2 ^ m) (let e : n ≡ suc (n - 1) = omega a
 pub word-parts : (n : ℕ) → 1 ≤ n → n ≤ 64 → 2 ^ (n - 1) * 2 ^ (64 - n) ≡ 2 ^ 63
 word-parts n n0 n1 = omega (arith, power-parts n 64 n0 n1)
 
+pub word-power : (n : ℕ) → n ≤ 64 → 2 ^ n * 2 ^ (64 - n) ≡ 2 ^ 64
+word-power n h = sym (pow-add 2 n (64 - n)) ∙ ap (λ (m : ℕ). 2 ^ m) (let l : n + (64 - n) ≡ 64 = omega arith in l)
+
 -- a number is below its own power
 pub below-power : (n : ℕ) → n < 2 ^ n
 below-power zero = lit< tt

@@ -20,6 +20,7 @@ use Rattle.numbers.specs.declared.number.Number.the-variants.{Finite}
 use Rattle.numbers.specs.declared.task.Mode.{Mode}
 use Rattle.numbers.specs.declared.task.Mode.the-variants.{Trunc}
 use Rattle.numbers.proofs.Laws.Cell.{cell-ratio, round-cell, claim-cell}
+use Rattle.numbers.proofs.Laws.Powers.{word-power}
 use Rattle.numbers.proofs.Laws.Signs.{abs-signed, negative-signed}
 use Rattle.numbers.proofs.Laws.Tests.{zero-same}
 use Rattle.numbers.proofs.Laws.Value.{cell-of, whole-alone, fraction-alone}
@@ -71,11 +72,8 @@ module _ (F n high low : ℕ) (rest : Bool) (n1 : n ≤ 64) (word : low < 2 ^ 64
 
 -- The whole number q + 1 or q of n bits as a significand: the unit 2^(64 - n) is added in the last place, and passes 2^64 where q + 1 is 2^n.
 module _ (negative : Bool) (e : ℤ) (n q : ℕ) (n1 : n ≤ 64) (q1 : q < 2 ^ n) where
-  word : 2 ^ n * 2 ^ (64 - n) ≡ 2 ^ 64
-  word = sym (pow-add 2 n (64 - n)) ∙ ap (λ (m : ℕ). 2 ^ m) (let l : n + (64 - n) ≡ 64 = omega arith in l)
-
   pub significand-is : q * 2 ^ (64 - n) % 2 ^ 64 ≡ q * 2 ^ (64 - n)
-  significand-is = mod-eq-of-lt (lt-of-lt-of-le (mul-lt-mul-of-pos-right q1 (pow-pos (64 - n))) (le-of-eq word))
+  significand-is = mod-eq-of-lt (lt-of-lt-of-le (mul-lt-mul-of-pos-right q1 (pow-pos (64 - n))) (le-of-eq (word-power n n1)))
 
   pub placed-same : placed negative e n (q + 0) ≡ Finite negative e (q * 2 ^ (64 - n))
   unfolding placed
@@ -84,7 +82,7 @@ module _ (negative : Bool) (e : ℤ) (n q : ℕ) (n1 : n ≤ 64) (q1 : q < 2 ^ n
   pub placed-carry : 2 ^ 64 ≤ q * 2 ^ (64 - n) + 2 ^ (64 - n) → placed negative e n (q + 1) ≡ Finite negative (sucℤ e) (2 ^ 63)
   unfolding placed
   placed-carry h =
-      rw (eq-eqb (q + 1) (2 ^ n) (le-antisymm (le-of-suc q1) (le-of-mul-le-mul-right {k = 2 ^ (64 - n)} (le-trans (le-of-eq word) (le-trans h (grown q (2 ^ (64 - n))))) (pow-pos (64 - n)))))
+      rw (eq-eqb (q + 1) (2 ^ n) (le-antisymm (le-of-suc q1) (le-of-mul-le-mul-right {k = 2 ^ (64 - n)} (le-trans (le-of-eq (word-power n n1)) (le-trans h (grown q (2 ^ (64 - n))))) (pow-pos (64 - n)))))
     where
       le-of-suc : {a b : ℕ} → a < b → a + 1 ≤ b
       le-of-suc l = omega arith
@@ -100,7 +98,7 @@ module _ (negative : Bool) (e : ℤ) (n q : ℕ) (n1 : n ≤ 64) (q1 : q < 2 ^ n
       one-more a u = omega arith
 
       full : q + 1 ≡ 2 ^ n → ⊥
-      full z = lt-irrefl (2 ^ 64) (lt-of-le-of-lt (le-of-eq (sym word ∙ ap (λ (m : ℕ). m * 2 ^ (64 - n)) (sym z) ∙ one-more q (2 ^ (64 - n)))) h)
+      full z = lt-irrefl (2 ^ 64) (lt-of-le-of-lt (le-of-eq (sym (word-power n n1) ∙ ap (λ (m : ℕ). m * 2 ^ (64 - n)) (sym z) ∙ one-more q (2 ^ (64 - n)))) h)
 
 -- the upper n bits, cut off, are what trunc gives
 pub upper-bits : (F n high low : ℕ) (rest : Bool) → n ≤ 64 → low < 2 ^ 64 → wide high low ≡ F / 2 ^ (64 - n) → rest ≡ ltb 0 (F % 2 ^ (64 - n)) → F < 2 ^ 128

@@ -1,43 +1,8 @@
--- `numbers::sum::subtracted` meets its contract: the callees' equations give the difference's cell, and Laws.Aligned how it is rounded.
-use mathlib.Core.Path.{_≡_, sym, ap, _∙_}
-use mathlib.Core.Bool.{Bool, not, cond}
-use Prim.Native.Nat.{ℕ, _+_, _-_, _*_, _/_, _%_, _^_, _≤_}
-use native.Mathlib.Omega.{arith}
+-- `numbers::sum::subtracted` meets its contract: Laws.Aligned takes the callees' equations to the answer.
 use borrow.Author.Needs.{needs}
-use lib.Dec.{ltb}
-use Rattle.numbers.specs.Rounding.{precisionOf}
-use Rattle.numbers.specs.Answer.{Outcome, rounded}
-use Rattle.numbers.specs.Fraction.{sum}
-use Rattle.numbers.specs.Grid.{digit}
-use Rattle.numbers.specs.Words.{scaledValue, oddOf, operandValue, IsAligned}
-use Rattle.numbers.specs.declared.operand.Operand.{Operand}
-use Rattle.numbers.specs.declared.task.Task.{Task}
-use Rattle.numbers.proofs.Laws.Aligned.{borrow-fits, subtracted-rounds}
+use Rattle.numbers.proofs.Laws.Aligned.{subtracted-fits, borrowed-fits, subtracted-answer}
 use Rattle.numbers.proofs.sum.subtracted.Statement.{statement}
 use Rattle.numbers.proofs.sum.subtracted.Tie as tie
-
--- T, S and Y stand for the larger operand raised, the smaller one raised, and the smaller one shifted
-module _ (large small : Operand) (h : IsAligned large small) (task : Task) (n0 : 1 ≤ precisionOf task) (n1 : precisionOf task ≤ 64) (T S Y : ℕ) (rest : Bool)
-    (top : T ≡ large .significand * 2 ^ 63) (raised : S ≡ small .significand * 2 ^ 63)
-    (shifted : Y ≡ S / 2 ^ (large .exponent - small .exponent)) (dropped : rest ≡ ltb 0 (S % 2 ^ (large .exponent - small .exponent))) where
-  shifted-is : Y ≡ small .significand * 2 ^ 63 / 2 ^ (large .exponent - small .exponent)
-  shifted-is = shifted ∙ ap (λ (n : ℕ). n / 2 ^ (large .exponent - small .exponent)) raised
-
-  dropped-is : rest ≡ ltb 0 (small .significand * 2 ^ 63 % 2 ^ (large .exponent - small .exponent))
-  dropped-is = dropped ∙ ap (λ (n : ℕ). ltb 0 (n % 2 ^ (large .exponent - small .exponent))) raised
-
-  room : digit rest + Y ≤ T
-  room = rw top (borrow-fits large small h task n0 n1 Y rest shifted-is dropped-is)
-
-  fits : Y ≤ T
-  fits = let r = room in omega arith
-
-  still-fits : (less b : ℕ) → less + Y ≡ T → b ≡ digit rest → b ≤ less
-  still-fits less b e k = let r = room in omega arith
-
-  answers : small .negative ≡ not (large .negative) → (less b M W : ℕ) (out : Outcome) → less + Y ≡ T → b ≡ digit rest → M + b ≡ less → W ≡ cond rest (oddOf M) M
-      → out ≡ rounded task (scaledValue (large .negative) W (large .exponent + 65535)) → out ≡ rounded task (sum (operandValue large) (operandValue small))
-  answers sign less b M W out l k m w o = o ∙ rw w (subtracted-rounds large small h task n0 n1 Y rest shifted-is dropped-is sign M (ap (λ (n : ℕ). M + n + Y) (sym k) ∙ ap (λ (n : ℕ). n + Y) m ∙ l ∙ top))
 
 raised-requires : tie.Need-raised-requires
 raised-requires c κs = search needs
@@ -54,7 +19,7 @@ shift-right-requires c κs = search needs
 difference-requires : tie.Need-difference-requires
 difference-requires c κs =
     let start = c .before .before .before .before .before in
-    fits _ _ (start .pre .0) _ (start .pre .2) (start .pre .3) _ _ _ (c .shift-right .result .rest) (c .before .before .before .before .raised .ensures) (c .before .before .before .raised2 .ensures) (c .shift-right .ensures .0) (c .shift-right .ensures .1)
+    subtracted-fits _ _ (start .pre .0) _ (start .pre .2) (start .pre .3) _ _ _ (c .shift-right .result .rest) (c .before .before .before .before .raised .ensures) (c .before .before .before .raised2 .ensures) (c .shift-right .ensures .0) (c .shift-right .ensures .1)
 
 borrow-requires : tie.Need-borrow-requires
 borrow-requires c κs = search needs
@@ -63,7 +28,7 @@ difference-requires-2 : tie.Need-difference-requires-2
 difference-requires-2 c κs =
     let cell = c .before .before in
     let start = cell .before .before .before .before .before in
-    still-fits _ _ (start .pre .0) _ (start .pre .2) (start .pre .3) _ _ _ (cell .shift-right .result .rest) (cell .before .before .before .before .raised .ensures) (cell .before .before .before .raised2 .ensures) (cell .shift-right .ensures .0)
+    borrowed-fits _ _ (start .pre .0) _ (start .pre .2) (start .pre .3) _ _ _ (cell .shift-right .result .rest) (cell .before .before .before .before .raised .ensures) (cell .before .before .before .raised2 .ensures) (cell .shift-right .ensures .0)
     (cell .shift-right .ensures .1) _ _ (c .before .difference .ensures) (c .borrow .ensures)
 
 add-rounded : tie.Need-add-rounded
@@ -79,7 +44,7 @@ returns : tie.Need-returns
 returns c =
     let cell = c .before .before .before .before .before .before in
     let start = cell .before .before .before .before .before in
-    answers _ _ (start .pre .0) _ (start .pre .2) (start .pre .3) _ _ _ (cell .shift-right .result .rest) (cell .before .before .before .before .raised .ensures) (cell .before .before .before .raised2 .ensures) (cell .shift-right .ensures .0)
+    subtracted-answer _ _ (start .pre .0) _ (start .pre .2) (start .pre .3) _ _ _ (cell .shift-right .result .rest) (cell .before .before .before .before .raised .ensures) (cell .before .before .before .raised2 .ensures) (cell .shift-right .ensures .0)
     (cell .shift-right .ensures .1) (start .pre .1) _ _ _ _ _ (c .before .before .before .before .before .difference .ensures) (c .before .before .before .before .borrow .ensures) (c .before .before .before .difference2 .ensures) (c .before .sticky .ensures) (c .rounded .ensures)
 
 pub subtracted-spec : {M : Type 1} → statement M

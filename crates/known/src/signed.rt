@@ -7,7 +7,7 @@ pub const LARGEST_NEGATIVE: u64 = 0x8000_0000;
 pub const LARGEST_POSITIVE: u64 = 0x7fff_ffff;
 
 // The exponent −magnitude.
-pub fn negative(magnitude: u64) -> i32
+pub(crate) fn negative(magnitude: u64) -> i32
     requires { ⌜ magnitude ≤ 2 ^ 31 ⌝ }
 {
     if magnitude == 0 {

@@ -1,4 +1,5 @@
--- Two-word magnitudes, for the contracts of private functions. No sentence of document 01 speaks of words, and no public promise cites this file.
+-- The terms of private contracts: two-word magnitudes and operands. No sentence of document 01 speaks of them, and no promise of a public
+-- function cites this file.
 use mathlib.Core.Bool.{Bool, cond}
 use Prim.Native.Nat.{ℕ, _+_, _-_, _*_, _/_, _%_, _^_, _≤_, _<_}
 use lib.Dec.{eqb}

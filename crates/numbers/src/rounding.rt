@@ -1,4 +1,5 @@
-// The one place where a magnitude is rounded. The two-word magnitude F at exponent x stands for F × 2^(x − 131,196).
+// The one place where a magnitude is rounded. The two-word magnitude F at exponent x stands for
+// F × 2^(x − 131,196).
 ghost use mathlib.Core.Path.{_≡_};
 ghost use mathlib.Core.Bool.{true};
 ghost use Prim.Native.Nat.{_+_, _*_, _^_, _≤_, _<_};
@@ -64,8 +65,7 @@ fn goes_up(mode: Mode, negative: bool, whole: u64, fraction: u64, rest: bool) ->
     }
 }
 
-// Is the exponent working of a magnitude at this exponent whose top bit stands zeros bits below
-// bit 127?
+// Is the exponent working? The magnitude's top bit stands `zeros` bits below bit 127.
 fn is_inside(exponent: u32, zeros: u32) -> bool
     requires { ⌜ (exponent ≤ 262143) × (zeros ≤ 127) ⌝ }
     ensures { λ r. ⌜ r ≡ isWorkingExponent (minus (exponent + 127) (lastBit + zeros)) ⌝ }
@@ -112,7 +112,8 @@ fn round_top(negative: bool, exponent: u32, zeros: u32, top: Words, rounding: Ro
     }
 }
 
-// A magnitude with its top bit at bit 127, claimed to have at most so many bits.
+// A magnitude with its top bit at bit 127, claimed to have at most so many bits: the exponent is
+// judged first, then the bits.
 fn claim_top(negative: bool, exponent: u32, zeros: u32, top: Words, claim: Claim) -> Answer
     requires { ⌜ (exponent ≤ 262142) × (zeros ≤ 127) × (wide (top .high) (top .low) < 2 ^ 128) × (1 ≤ claim .precision) × (claim .precision ≤ 64) ⌝ }
     ensures { λ r. ⌜ outcome r ≡ claimedTop negative (minus (exponent + 127) (lastBit + zeros)) (claim .precision) (wide (top .high) (top .low)) ⌝ }

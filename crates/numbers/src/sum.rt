@@ -18,8 +18,8 @@ use super::words::difference;
 use super::words::shift_right;
 use super::words::sum;
 
-// From an operand's exponent to that of its significand × 2^63 as a two-word magnitude.
-const RAISED: u32 = 65_535;
+// What is added to an operand's exponent where its significand × 2^63 is a two-word magnitude.
+const EXPONENT_STEP: u32 = 65_535;
 
 // significand × 2^63.
 fn raised(significand: u64) -> Words
@@ -72,7 +72,7 @@ fn added(large: Operand, small: Operand, task: Task) -> Answer
     );
     rounded(
         large.negative,
-        large.exponent + RAISED,
+        large.exponent + EXPONENT_STEP,
         sticky(joined, cell.rest),
         task,
     )
@@ -96,7 +96,7 @@ fn subtracted(large: Operand, small: Operand, task: Task) -> Answer
     let left = difference(less, borrow(cell.rest));
     rounded(
         large.negative,
-        large.exponent + RAISED,
+        large.exponent + EXPONENT_STEP,
         sticky(left, cell.rest),
         task,
     )

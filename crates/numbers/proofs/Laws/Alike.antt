@@ -7,12 +7,13 @@ use native.Mathlib.Omega.{arith}
 use native.Mathlib.Nat.{le-antisymm, le-of-eq, lt-of-lt-of-le, lt-of-not-le, not-le-of-lt, mul-le-mul, mul-le-mul-right, lt-of-mul-lt-mul-right, le-div-iff-mul-le}
 use lib.Dec.{ltb, leb→le, le→leb}
 use lib.IntN.{ℤ, pos, negsuc, natAbs, _*ℤ_}
-use lib.Pow.{pow-pos}
+use lib.Pow.{pow-add, pow-pos}
 use lib.Signed.{_≤ℤ_}
 use Rattle.numbers.specs.Fraction.{Fraction, IsFraction, Equal, AtMost, signed}
 use Rattle.numbers.specs.Rounding.{isNegative}
 use Rattle.numbers.specs.Grid.{InCell, HasCell, cellValue, multiple, Alike, RoundedAlike}
 use Rattle.numbers.proofs.Laws.Cell.{same-cell}
+use Rattle.numbers.proofs.Laws.Fractions.{fraction, times-times}
 use Rattle.numbers.proofs.Laws.Ratio.{Ordered}
 use Rattle.numbers.proofs.Laws.Signs.{abs-signed, negative-signed, signed-abs, signed-times, signed-order, signed-ordered}
 use Rattle.numbers.proofs.Laws.Value.{cell-of, value-alone}
@@ -146,3 +147,12 @@ alike-rounds n x y i o n0 x0 y0 fine alike =
 
     spelled : Alike i o (record { numerator = signed (isNegative (x .numerator)) (natAbs (x .numerator)); denominator = x .denominator }) (record { numerator = signed (isNegative (x .numerator)) (natAbs (y .numerator)); denominator = y .denominator })
     spelled = rw (signed-abs (x .numerator), sign, signed-abs (y .numerator)) alike
+
+-- a grid that does not tell two values apart does not when it is made coarser
+coarse : (k : ℤ) (c i o : ℕ) → multiple k (c + i) o ≡ multiple (k *ℤ pos (2 ^ c)) i o
+unfolding multiple
+coarse k c i o = ap (λ (z : ℤ). fraction z (2 ^ o)) (ap (λ (n : ℕ). k *ℤ pos n) (pow-add 2 c i) ∙ sym (times-times k (2 ^ c) (2 ^ i)))
+
+pub alike-coarser : (c i o : ℕ) (x y : Fraction) → Alike i o x y → Alike (c + i) o x y
+unfolding Alike
+alike-coarser c i o x y alike k = rw (coarse k c i o) (alike (k *ℤ pos (2 ^ c)))

@@ -1,7 +1,7 @@
 -- How far rounding to n bits moves a value, and to which side: the bounds of each mode, for any fraction and a free n.
 use mathlib.Core.Path.{_≡_, sym, ap, _∙_}
 use mathlib.Core.Bool.{Bool, true, false}
-use Prim.Native.Nat.{ℕ, _-_, _*_, _%_, _^_, _≤_, _<_}
+use Prim.Native.Nat.{ℕ, _+_, _-_, _*_, _%_, _^_, _≤_, _<_}
 use native.Mathlib.Omega.{arith}
 use native.Mathlib.Nat.{mul-pos, mul-le-mul-right, mul-lt-mul-of-pos-right, lt-of-lt-of-le, lt-of-mul-lt-mul-right, pos-of-ne-zero, zero-mod}
 use lib.Dec.{le→leb, lt→ltb}
@@ -34,6 +34,16 @@ half-unit {d = d} b k r l = omega (arith, ratio-gap r, mul-le-mul-right d l)
 -- a gap below the unit k / (p × f), which is at most a / b over p
 below-part : (g p f k a b d : ℕ) → 0 < p → 0 < b → g * (p * f) < k * (d * b) → k * p * b ≤ a * (p * f) → g * p * b < a * (d * b)
 below-part g p f k a b d p0 b0 l h = lt-of-mul-lt-mul-right (p * f) (omega (arith, mul-lt-mul-of-pos-right {k = p * b} l (mul-pos p0 b0), mul-le-mul-right (d * b) h))
+
+-- what a gap of less than v / p says of u
+within-above : (u v p : ℕ) → gap u v * p < v → u * p < v * (p + 1)
+within-above u v p l = let k : u ≤ v + gap u v = omega arith in omega (arith, mul-le-mul-right p k)
+
+within-below : (u v p : ℕ) → 1 ≤ p → gap u v * p < v → v * (p - 1) < u * p
+within-below u v p p0 l =
+    let k : v ≤ u + gap u v = omega arith in
+    let m : v * p ≡ v * (p - 1) + v = omega (arith, ap (λ (n : ℕ). v * n) (let e : p ≡ p - 1 + 1 = omega arith in e)) in
+    omega (arith, mul-le-mul-right p k)
 
 module _ (x : Fraction) (n : ℕ) (x0 : IsFraction x) (n0 : 1 ≤ n) (n1 : n ≤ 64) where
   bottom0 : 0 < bottom x
@@ -97,6 +107,30 @@ module _ (x : Fraction) (n : ℕ) (x0 : IsFraction x) (n0 : 1 ≤ n) (n1 : n ≤
       ltZ-yes (lt→ltb _ _
       (below-part (natAbs (difference (value (round mode n x)) x .numerator)) (2 ^ (n - 1)) (down (exponent x)) (up (exponent x)) (natAbs (x .numerator)) (x .denominator)
       (value (round mode n x) .denominator) (pow-pos (n - 1)) x0 (missed mode) (unit nz)))
+
+  -- so a rounded magnitude is x times less than 1 + 1 / 2^(n − 1), and times more than 1 − 1 / 2^(n − 1)
+  nearby : (mode : Mode) → 0 < natAbs (x .numerator) → gap (after mode n x) (before mode n x) * 2 ^ (n - 1) < before mode n x
+  unfolding IsFraction
+  nearby mode nz =
+      lt-of-mul-lt-mul-right (x .denominator)
+      (rw (← miss mode n x x0 n0 n1)
+      (omega (
+        arith,
+        below-part (natAbs (difference (value (round mode n x)) x .numerator)) (2 ^ (n - 1)) (down (exponent x)) (up (exponent x)) (natAbs (x .numerator)) (x .denominator)
+            (value (round mode n x) .denominator) (pow-pos (n - 1)) x0 (missed mode) (unit nz),
+      )))
+
+  pub close-above : (mode : Mode) → 0 < natAbs (x .numerator) → Below (times (2 ^ (n - 1)) (magnitude (value (round mode n x)))) (times (2 ^ (n - 1) + 1) (magnitude x))
+  unfolding Below times magnitude
+  close-above mode nz =
+      ltZ-yes (lt→ltb (natAbs (value (round mode n x) .numerator) * 2 ^ (n - 1) * x .denominator) (natAbs (x .numerator) * (2 ^ (n - 1) + 1) * value (round mode n x) .denominator)
+      (omega (arith, within-above (after mode n x) (before mode n x) (2 ^ (n - 1)) (nearby mode nz))))
+
+  pub close-below : (mode : Mode) → 0 < natAbs (x .numerator) → Below (times (2 ^ (n - 1) - 1) (magnitude x)) (times (2 ^ (n - 1)) (magnitude (value (round mode n x))))
+  unfolding Below times magnitude
+  close-below mode nz =
+      ltZ-yes (lt→ltb (natAbs (x .numerator) * (2 ^ (n - 1) - 1) * value (round mode n x) .denominator) (natAbs (value (round mode n x) .numerator) * 2 ^ (n - 1) * x .denominator)
+      (omega (arith, within-below (after mode n x) (before mode n x) (2 ^ (n - 1)) (pow-pos (n - 1)) (nearby mode nz))))
 
   -- sticky gives an odd whole number where there was a fraction
   pub sticky-odd : hasAtMostBits n (natAbs (x .numerator)) (x .denominator) ≡ false

@@ -8,7 +8,7 @@ use lib.IntN.{ℤ, pos, negsuc}
 use Rattle.numbers.specs.Number.{isSignificand, isBetween, isFit, isWorkingExponent, isWorking}
 use Rattle.numbers.specs.Fraction.{signed, value, sum, product}
 use Rattle.numbers.specs.Rounding.{settled, exponentOf, scaledNumerator, scaledDenominator, goesUp, wholeOf, placed, roundedAt, isNegative, round, hasAtMostBits, taskOf, isPrecision}
-use Rattle.numbers.specs.Answer.{Outcome, given, refused, checked, claimed, rounded, unlessRefused, operationOf, sumOf, productOf}
+use Rattle.numbers.specs.Answer.{Outcome, given, refused, checked, claimed, rounded, unlessRefused, operationOf, sumOf, productOf, judged}
 use Rattle.numbers.specs.declared.number.Number.{Number}
 use Rattle.numbers.specs.declared.number.Number.the-variants.{Zero, Finite}
 
@@ -61,5 +61,5 @@ pub known : results ≡ (
     ∷ given (Finite false (pos 1) 0x8000000000000000)
     ∷ given (Finite false (pos 0) 0x8000000000000000)
     ∷ [])
-unfolding results sumOf productOf operationOf unlessRefused isPrecision isWorking isFit isBetween isSignificand isWorkingExponent taskOf rounded checked claimed round roundedAt hasAtMostBits isNegative placed wholeOf goesUp scaledNumerator scaledDenominator exponentOf settled size value signed sum product
+unfolding results sumOf productOf operationOf unlessRefused isPrecision isWorking isFit isBetween isSignificand isWorkingExponent taskOf rounded checked claimed judged round roundedAt hasAtMostBits isNegative placed wholeOf goesUp scaledNumerator scaledDenominator exponentOf settled size value signed sum product
 known = refl

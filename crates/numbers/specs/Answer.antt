@@ -34,15 +34,16 @@ unfoldable pub checked : Number → Outcome
 checked Zero = given Zero
 checked (Finite negative e S) = cond (isWorkingExponent e) (given (Finite negative e S)) (refused 7)
 
--- An exact claim: row 7 of the value, then row 8, "exact claim, more than n bits". A value of at most n bits is its own trunc.
+-- Row 7, then row 8, "exact claim, more than n bits": the number x, if its exponent is working and it is exact
+unfoldable pub judged : Bool → Bool → Number → Outcome
+judged working exact x = cond working (cond exact (given x) (refused 8)) (refused 7)
+
+-- An exact claim, so row 7 is of the value. A value of at most n bits is its own trunc.
 unfoldable pub claimed : ℕ → Fraction → Outcome
 claimed n x =
     let a = natAbs (x .numerator) in
     let b = x .denominator in
-    cond (eqb a 0) (given Zero)
-    (cond (isWorkingExponent (exponentOf a b))
-    (cond (hasAtMostBits n a b) (given (round Trunc n x)) (refused 8))
-    (refused 7))
+    cond (eqb a 0) (given Zero) (judged (isWorkingExponent (exponentOf a b)) (hasAtMostBits n a b) (round Trunc n x))
 
 -- the exact value x after its task
 unfoldable pub rounded : Task → Fraction → Outcome

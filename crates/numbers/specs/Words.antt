@@ -1,10 +1,10 @@
 -- The terms of private contracts: two-word magnitudes and operands. No sentence of document 01 speaks of them, and no promise of a public
 -- function cites this file.
-use mathlib.Core.Bool.{Bool, cond}
+use mathlib.Core.Bool.{Bool}
 use Prim.Native.Nat.{ℕ, _+_, _-_, _*_, _/_, _%_, _^_, _≤_, _<_}
 use lib.Dec.{eqb}
 use lib.IntN.{ℤ}
-use Rattle.numbers.specs.Answer.{Outcome, given, refused, checked}
+use Rattle.numbers.specs.Answer.{Outcome, checked, judged}
 use Rattle.numbers.specs.Fraction.{Fraction, signed, sum, difference, product}
 use Rattle.numbers.specs.Number.{isWorkingExponent}
 use Rattle.numbers.specs.Rounding.{wholeOf, placed}
@@ -32,9 +32,7 @@ roundedTop mode negative e n F = checked (placed negative e n (wholeOf mode nega
 
 unfoldable pub claimedTop : Bool → ℤ → ℕ → ℕ → Outcome
 claimedTop negative e n F =
-    cond (isWorkingExponent e)
-    (cond (eqb (F % 2 ^ (128 - n)) 0) (given (placed negative e n (wholeOf Trunc negative F (2 ^ (128 - n))))) (refused 8))
-    (refused 7)
+    judged (isWorkingExponent e) (eqb (F % 2 ^ (128 - n)) 0) (placed negative e n (wholeOf Trunc negative F (2 ^ (128 - n))))
 
 -- the odd one of F and F + 1
 unfoldable pub oddOf : ℕ → ℕ

@@ -10,7 +10,7 @@ use lib.Pow.{pow-add, pow-pos}
 use Rattle.numbers.specs.Number.{isWorkingExponent}
 use Rattle.numbers.specs.Fraction.{Fraction}
 use Rattle.numbers.specs.Rounding.{exponentOf, round, hasAtMostBits}
-use Rattle.numbers.specs.Answer.{given, claimed}
+use Rattle.numbers.specs.Answer.{given, claimed, judged}
 use Rattle.numbers.specs.Grid.{InCell}
 use Rattle.numbers.specs.declared.task.Mode.the-variants.{Trunc}
 use Rattle.numbers.proofs.Laws.Cell.{bits-at}
@@ -40,5 +40,5 @@ bits-of n a b (suc p) i o n0 a0 b0 q1 e =
 -- a claim that holds gives the value, which trunc keeps (Bounds, `kept`)
 pub claim-holds : (n : ℕ) (x : Fraction) → 0 < natAbs (x .numerator) → isWorkingExponent (exponentOf (natAbs (x .numerator)) (x .denominator)) ≡ true
     → hasAtMostBits n (natAbs (x .numerator)) (x .denominator) ≡ true → claimed n x ≡ given (round Trunc n x)
-unfolding claimed
+unfolding claimed judged
 claim-holds n x x0 w h = rw (ne-eqb (natAbs (x .numerator)) 0 (λ (z : natAbs (x .numerator) ≡ 0). omega arith), w, h)

@@ -1,7 +1,7 @@
 -- Two fractions of one sign in one cell are rounded alike, on any grid of a power of two that is fine enough.
 -- The grid is 2^i / 2^o. The fraction's magnitude a / b lies in the cell F where a × 2^o does on the grid b × 2^i.
 use mathlib.Core.Path.{_≡_, sym, ap, _∙_}
-use mathlib.Core.Bool.{Bool, true, false, cond}
+use mathlib.Core.Bool.{Bool, true, false}
 use Prim.Native.Nat.{ℕ, suc, _+_, _-_, _*_, _%_, _^_, _≤_, _<_}
 use native.Mathlib.Omega.{arith}
 use native.Mathlib.Nat.{lt-of-lt-of-le, mul-le-mul-right, mul-lt-mul-of-pos-right, lt-of-mul-lt-mul-right, eq-of-mul-eq-mul-right, pow-succ', mul-le-mul}
@@ -15,9 +15,8 @@ use lib.Ieee.Fits.{up-pos, down-pos}
 use Rattle.numbers.specs.Number.{isWorkingExponent}
 use Rattle.numbers.specs.Fraction.{Fraction, IsFraction}
 use Rattle.numbers.specs.Rounding.{exponentOf, scaledNumerator, scaledDenominator, wholeOf, placed, roundedAt, isNegative, round, hasAtMostBits, precisionOf}
-use Rattle.numbers.specs.Answer.{given, refused, rounded, claimed, checked}
+use Rattle.numbers.specs.Answer.{rounded, claimed, checked, judged}
 use Rattle.numbers.specs.Grid.{InCell, digit, RoundedAlike}
-use Rattle.numbers.specs.declared.number.Number.{Number}
 use Rattle.numbers.specs.declared.task.Mode.{Mode}
 use Rattle.numbers.specs.declared.task.Mode.the-variants.{Trunc}
 use Rattle.numbers.specs.declared.task.Task.{Task}
@@ -99,7 +98,7 @@ module _ (x : Fraction) (rest : Bool) (i o F t n : ℕ) (b0 : IsFraction x) (n0 
         whole-at rest (natAbs (x .numerator)) (x .denominator) i o F t n b0 n0 fine t0 t1 h mode (isNegative (x .numerator)),
       )
 
-  pub claim-cell : claimed n x ≡ cond (isWorkingExponent (minus (t + i) o)) (cond (eqb ((2 * F + digit rest) % (2 * (2 * 2 ^ (t - n)))) 0) (given (round Trunc n x)) (refused 8)) (refused 7)
+  pub claim-cell : claimed n x ≡ judged (isWorkingExponent (minus (t + i) o)) (eqb ((2 * F + digit rest) % (2 * (2 * 2 ^ (t - n)))) 0) (round Trunc n x)
   unfolding claimed IsFraction
   claim-cell =
       rw (
@@ -127,7 +126,7 @@ module _ (x y : Fraction) (rest : Bool) (i o F : ℕ) (x0 : IsFraction x) (y0 : 
         rounds = λ mode. same-round mode n n0 fine;
         claims =
             claim-cell x rest i o F (b .0) n x0 n0 l (b .1) (b .2) hx
-            ∙ ap (λ (z : Number). cond (isWorkingExponent (minus (b .0 + i) o)) (cond (eqb ((2 * F + digit rest) % (2 * (2 * 2 ^ (b .0 - n)))) 0) (given z) (refused 8)) (refused 7)) (same-round Trunc n n0 fine)
+            ∙ ap (judged (isWorkingExponent (minus (b .0 + i) o)) (eqb ((2 * F + digit rest) % (2 * (2 * 2 ^ (b .0 - n)))) 0)) (same-round Trunc n n0 fine)
             ∙ sym (claim-cell y rest i o F (b .0) n y0 n0 l (b .1) (b .2) hy);
       }
 

@@ -14,7 +14,7 @@ use lib.Pow.{pow-pos}
 use Rattle.numbers.specs.Number.{isSignificand, isFit, isWorkingExponent, isWorking}
 use Rattle.numbers.specs.Fraction.{Fraction, IsFraction}
 use Rattle.numbers.specs.Rounding.{exponentOf, scaledNumerator, scaledDenominator, goesUp, wholeOf, placed, roundedAt, isNegative, round, hasAtMostBits, precisionOf}
-use Rattle.numbers.specs.Answer.{given, refused, checked, claimed, rounded}
+use Rattle.numbers.specs.Answer.{given, refused, checked, claimed, rounded, judged}
 use Rattle.numbers.specs.declared.number.Number.{Number}
 use Rattle.numbers.specs.declared.number.Number.the-variants.{Zero, Finite}
 use Rattle.numbers.specs.declared.task.Mode.{Mode}
@@ -142,7 +142,7 @@ trunc-working n x b0 n0 n1 w = go (natAbs (x .numerator)) refl (round-fits Trunc
         rw (some, stays, w) (rw (some, stays) at f)
 
 claimed-working : (n : ℕ) (x : Fraction) (y : Number) → IsFraction x → 1 ≤ n → n ≤ 64 → claimed n x ≡ given y → isWorking y ≡ true
-unfolding claimed
+unfolding claimed judged
 claimed-working n x y x0 n0 n1 h =
     go (eqb (natAbs (x .numerator)) 0) (isWorkingExponent (exponentOf (natAbs (x .numerator)) (x .denominator))) (hasAtMostBits n (natAbs (x .numerator)) (x .denominator)) refl h
   where

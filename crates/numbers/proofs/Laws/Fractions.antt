@@ -120,13 +120,13 @@ other-sum s a b d h =
 
 -- ---- the quotient
 
-negative-times : (z : ℤ) (n : ℕ) → negℤ z *ℤ pos n ≡ negℤ (z *ℤ pos n)
-negative-times (pos zero) n = ap pos (zero-mul n) ∙ sym (ap (λ (m : ℕ). negℤ (pos m)) (zero-mul n))
-negative-times (pos (suc a)) n = refl
-negative-times (negsuc a) n = sym (negℤ-negℤ (pos (suc a * n)))
+pub opposite-times : (z : ℤ) (n : ℕ) → negℤ z *ℤ pos n ≡ negℤ (z *ℤ pos n)
+opposite-times (pos zero) n = ap pos (zero-mul n) ∙ sym (ap (λ (m : ℕ). negℤ (pos m)) (zero-mul n))
+opposite-times (pos (suc a)) n = refl
+opposite-times (negsuc a) n = sym (negℤ-negℤ (pos (suc a * n)))
 
 two-turns : (z : ℤ) (q : ℕ) → negℤ z *ℤ negsuc q ≡ z *ℤ pos (suc q)
-two-turns z q = *ℤ-negsuc (negℤ z) q ∙ ap negℤ (negative-times z (suc q)) ∙ negℤ-negℤ (z *ℤ pos (suc q))
+two-turns z q = *ℤ-negsuc (negℤ z) q ∙ ap negℤ (opposite-times z (suc q)) ∙ negℤ-negℤ (z *ℤ pos (suc q))
 
 pub quotient-fraction : (x y : Fraction) → IsFraction x → 0 < natAbs (y .numerator) → IsFraction (quotient x y)
 unfolding IsFraction quotient dividedBy

@@ -13,7 +13,7 @@ use borrow.Author.Tests.{eq-eqb, ne-eqb}
 use Rattle.numbers.specs.Number.{isWorkingExponent}
 use Rattle.numbers.specs.Fraction.{IsFraction}
 use Rattle.numbers.specs.Rounding.{goesUp, wholeOf, placed, isNegative, round}
-use Rattle.numbers.specs.Answer.{given, refused, claimed}
+use Rattle.numbers.specs.Answer.{claimed, judged}
 use Rattle.numbers.specs.Grid.{InCell, digit}
 use Rattle.numbers.specs.Words.{wide, lastBit, scaledValue}
 use Rattle.numbers.specs.declared.number.Number.the-variants.{Finite}
@@ -144,7 +144,7 @@ module _ (negative : Bool) (F x z n : ℕ) (n0 : 1 ≤ n) (n1 : n ≤ 64) (low :
       round-cell (scaledValue negative F x) false x (lastBit + z) (F * 2 ^ z) 127 n is-fraction n0 below-bit low high exact-cell mode
       ∙ rw (sign, add-comm 127 x, whole-alone (2 * (F * 2 ^ z) + 0) (2 * (2 * 2 ^ (127 - n))) (F * 2 ^ z) (2 ^ (128 - n)) bottom0 (pow-pos (128 - n)) quotient mode negative)
 
-  pub claim-top : claimed n (scaledValue negative F x) ≡ cond (isWorkingExponent (minus (x + 127) (lastBit + z))) (cond (eqb (F * 2 ^ z % 2 ^ (128 - n)) 0) (given (round Trunc n (scaledValue negative F x))) (refused 8)) (refused 7)
+  pub claim-top : claimed n (scaledValue negative F x) ≡ judged (isWorkingExponent (minus (x + 127) (lastBit + z))) (eqb (F * 2 ^ z % 2 ^ (128 - n)) 0) (round Trunc n (scaledValue negative F x))
   claim-top =
       claim-cell (scaledValue negative F x) false x (lastBit + z) (F * 2 ^ z) 127 n is-fraction n0 below-bit low high exact-cell
       ∙ rw (add-comm 127 x, zero-same ((2 * (F * 2 ^ z) + 0) % (2 * (2 * 2 ^ (127 - n)))) (F * 2 ^ z % 2 ^ (128 - n)) (fraction-alone (2 * (F * 2 ^ z) + 0) (2 * (2 * 2 ^ (127 - n))) (F * 2 ^ z) (2 ^ (128 - n)) bottom0 (pow-pos (128 - n)) quotient))

@@ -64,14 +64,14 @@ pub equal-magnitudes : (x y : Fraction) → Equal x y → natAbs (x .numerator) 
 unfolding Equal
 equal-magnitudes x y e = sym (abs-times (x .numerator) (y .denominator)) ∙ ap natAbs e ∙ abs-times (y .numerator) (x .denominator)
 
-negative-times : (z : ℤ) (d : ℕ) → 0 < d → isNegative (z *ℤ pos d) ≡ isNegative z
+sign-times : (z : ℤ) (d : ℕ) → 0 < d → isNegative (z *ℤ pos d) ≡ isNegative z
 unfolding signed isNegative
-negative-times (pos a) d d0 = refl
-negative-times (negsuc a) d d0 = negative-signed true (suc a * d) (omega (arith, mul-le-mul-right a d0, mul-le-mul-right d (let l : 1 ≤ suc a = omega arith in l)))
+sign-times (pos a) d d0 = refl
+sign-times (negsuc a) d d0 = negative-signed true (suc a * d) (omega (arith, mul-le-mul-right a d0, mul-le-mul-right d (let l : 1 ≤ suc a = omega arith in l)))
 
 pub equal-signs : (x y : Fraction) → IsFraction x → IsFraction y → Equal x y → isNegative (x .numerator) ≡ isNegative (y .numerator)
 unfolding Equal IsFraction
-equal-signs x y x0 y0 e = sym (negative-times (x .numerator) (y .denominator) y0) ∙ ap isNegative e ∙ negative-times (y .numerator) (x .denominator) x0
+equal-signs x y x0 y0 e = sym (sign-times (x .numerator) (y .denominator) y0) ∙ ap isNegative e ∙ sign-times (y .numerator) (x .denominator) x0
 
 -- the grid 1 / 2^(n + b) is fine enough for a / b
 fine-enough : (a b n : ℕ) → 0 < a → 0 < b → 2 ^ n ≤ a * 2 ^ (n + b) / (b * 2 ^ 0)

@@ -7,7 +7,7 @@ use borrow.Author.Needs.{needs}
 use borrow.Author.Tests.{not-true, not-false, ltb-true, ltb-false, ne-eqb, eq-eqb}
 use lib.Dec.{ltb}
 use lib.IntN.{ℤ}
-use Rattle.numbers.specs.Answer.{given, outcome, checked}
+use Rattle.numbers.specs.Answer.{given, outcome, checked, judged}
 use Rattle.numbers.specs.Grid.{digit}
 use Rattle.numbers.specs.Number.{isWorkingExponent}
 use Rattle.numbers.specs.Words.{wide, claimedTop}
@@ -18,7 +18,7 @@ use Rattle.numbers.proofs.rounding.claim_top.Statement.{statement}
 use Rattle.numbers.proofs.rounding.claim_top.Tie as tie
 
 outside : (negative : Bool) (e : ℤ) (n F : ℕ) (inside : Bool) → inside ≡ isWorkingExponent e → inside ≡ false → outcome ExponentOutside ≡ claimedTop negative e n F
-unfolding outcome claimedTop
+unfolding outcome claimedTop judged
 outside negative e n F inside judged h = rw (sym judged ∙ h)
 
 module _ (negative : Bool) (e : ℤ) (F n high low : ℕ) (rest inside inexact : Bool) (n1 : n ≤ 64) (word : low < 2 ^ 64)
@@ -27,11 +27,11 @@ module _ (negative : Bool) (e : ℤ) (F n high low : ℕ) (rest inside inexact :
   bits = top-bits F n high low rest n1 word shifted dropped ∙ sym some
 
   too-many : inside ≡ true → inexact ≡ true → outcome TooManyBits ≡ claimedTop negative e n F
-  unfolding outcome claimedTop
+  unfolding outcome claimedTop judged
   too-many h k = rw (sym judged ∙ h, ne-eqb (F % 2 ^ (128 - n)) 0 (λ (z : F % 2 ^ (128 - n) ≡ 0). let l = ltb-true 0 (F % 2 ^ (128 - n)) (bits ∙ k) in omega arith))
 
   none : F < 2 ^ 128 → inside ≡ true → inexact ≡ false → checked (Finite negative e (high * 2 ^ (64 - n) % 2 ^ 64)) ≡ claimedTop negative e n F
-  unfolding checked claimedTop
+  unfolding checked claimedTop judged
   none F1 h k =
       rw (sym judged ∙ h, eq-eqb (F % 2 ^ (128 - n)) 0 (let l = ltb-false 0 (F % 2 ^ (128 - n)) (bits ∙ k) in omega arith))
       (ap given (upper-bits F n high low rest n1 word shifted dropped F1 negative e))

@@ -41,28 +41,23 @@ high-set high low n = omega arith
 still : (F z G : ℕ) → G ≡ F * 2 ^ z → F * 2 ^ z < 2 ^ 128 → G < 2 ^ 128
 still F z G e h = rw e h
 
--- the precision of a task, by its case
+-- a task has a precision from 1 to 64, and so has its case
 module _ (task : Task) (n0 : 1 ≤ precisionOf task) (n1 : precisionOf task ≤ 64) where
-  round-precision : (r : Rounding) → task ≡ Round r → (1 ≤ r .precision) × (r .precision ≤ 64)
-  unfolding precisionOf
-  round-precision r e = let k : precisionOf task ≡ r .precision = rw e in (omega arith, omega arith)
-
-  claim-precision : (r : Claim) → task ≡ Exact r → (1 ≤ r .precision) × (r .precision ≤ 64)
-  unfolding precisionOf
-  claim-precision r e = let k : precisionOf task ≡ r .precision = rw e in (omega arith, omega arith)
+  precision : (t : Task) → task ≡ t → (1 ≤ precisionOf t) × (precisionOf t ≤ 64)
+  precision t e = let k : precisionOf task ≡ precisionOf t = ap precisionOf e in (omega arith, omega arith)
 
   -- what is done at the top bit is done to the value
   module _ (negative : Bool) (F x z G : ℕ) (low : 2 ^ 127 ≤ F * 2 ^ z) (high : F * 2 ^ z < 2 ^ 128) (shifted : G ≡ F * 2 ^ z) where
     round-value : (r : Rounding) → task ≡ Round r → roundedTop (r .mode) negative (minus (x + 127) (lastBit + z)) (r .precision) G ≡ rounded task (scaledValue negative F x)
-    unfolding roundedTop rounded
+    unfolding roundedTop rounded precisionOf
     round-value r e =
-        let p = round-precision r e in
+        let p = precision (Round r) e in
         rw (e, shifted) (ap checked (sym (round-top negative F x z (r .precision) (p .0) (p .1) low high (r .mode))))
 
     claim-value : (r : Claim) → task ≡ Exact r → claimedTop negative (minus (x + 127) (lastBit + z)) (r .precision) G ≡ rounded task (scaledValue negative F x)
-    unfolding claimedTop rounded
+    unfolding claimedTop rounded precisionOf
     claim-value r e =
-        let p = claim-precision r e in
+        let p = precision (Exact r) e in
         rw (e, shifted) (sym (claim-top negative F x z (r .precision) (p .0) (p .1) low high ∙ rw (round-top negative F x z (r .precision) (p .0) (p .1) low high Trunc)))
 
 returns : tie.Need-returns
@@ -78,20 +73,22 @@ enum-known-task : tie.Need-enum-known-task
 enum-known-task c = search needs
 
 round-top-requires : tie.Need-round-top-requires
+unfolding precisionOf
 round-top-requires c κs =
     let start = c .before .before .before .before .before .before .before in
     let zeros = c .before .before .before .before .leading-zeros in
-    let n = round-precision _ (start .pre .1) (start .pre .2) _ (c .before .task .given .1) in
+    let n = precision _ (start .pre .1) (start .pre .2) _ (c .before .task .given .1) in
     (start .pre .0, zeros .ensures .0, still _ _ _ (c .before .before .before .shift-left .ensures) (zeros .ensures .2), n .0, n .1)
 
 enum-known-task-2 : tie.Need-enum-known-task-2
 enum-known-task-2 c = search needs
 
 claim-top-requires : tie.Need-claim-top-requires
+unfolding precisionOf
 claim-top-requires c κs =
     let start = c .before .before .before .before .before .before .before in
     let zeros = c .before .before .before .before .leading-zeros in
-    let n = claim-precision _ (start .pre .1) (start .pre .2) _ (c .before .task2 .given .1) in
+    let n = precision _ (start .pre .1) (start .pre .2) _ (c .before .task2 .given .1) in
     (start .pre .0, zeros .ensures .0, still _ _ _ (c .before .before .before .shift-left .ensures) (zeros .ensures .2), n .0, n .1)
 
 returns-2 : tie.Need-returns-2

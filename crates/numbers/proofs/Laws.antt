@@ -28,3 +28,11 @@ pub mod Negated
 pub mod Sum
 pub mod Aligned
 pub mod Refusals
+-- Codes: the number with a code's value, little-endian bytes, the parts of a code, and the theorems on reading and writing
+pub mod Places
+pub mod Decoded
+pub mod Bytes
+pub mod Leading
+pub mod Parts
+pub mod Entries
+pub mod Codes

@@ -1,6 +1,11 @@
-// Numbers of 64 significant bits, and their exact sum, difference and product, each rounded once by
-// the caller's task. What is public stands in `operation`, `number`, `task` and `answer`.
+// Numbers of 64 significant bits: their exact sum, difference and product, each rounded once by the
+// caller's task, and their double-extended and binary64 codes. What is public stands in `operation`,
+// `number`, `task` and `answer`, and for codes in `double_extended`, `binary64` and `code`.
 pub mod answer;
+pub mod binary64;
+pub mod code;
+pub mod double_extended;
+mod little_endian;
 pub mod number;
 mod operand;
 pub mod operation;

@@ -99,13 +99,13 @@ pub(crate) fn shift_left(a: Words, by: u32) -> Words
 }
 
 // One word, and whether something nonzero lies below its last bit.
-struct Part {
-    value: u64,
-    rest: bool,
+pub(crate) struct Part {
+    pub value: u64,
+    pub rest: bool,
 }
 
 // a / 2^by as a whole number, of one word, and whether a bit that was set is dropped.
-fn cut(a: u64, by: u32) -> Part
+pub(crate) fn cut(a: u64, by: u32) -> Part
     ensures { λ r. ⌜ (r .value ≡ a / 2 ^ by) × (r .rest ≡ ltb 0 (a % 2 ^ by)) ⌝ }
 {
     if by == 0 {

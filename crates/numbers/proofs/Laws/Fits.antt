@@ -25,7 +25,7 @@ use Rattle.numbers.proofs.Laws.Exponent.{exponent-reaches, exponent-bel
 use Rattle.numbers.proofs.Laws.Powers.{power-twice, word-parts, word-power}
 
 -- the whole number is the quotient, or one more
-at-most-one : (b : Bool) → cond b 1 0 ≤ 1
+pub at-most-one : (b : Bool) → cond b 1 0 ≤ 1
 at-most-one true = omega arith
 at-most-one false = omega arith
 

@@ -1,0 +1,187 @@
+-- A number normalized: the fit number of the same value, if there is one. And a number cut to a code's bits: it equals the code where no set bit
+-- was cut off.
+use mathlib.Core.Path.{_≡_, refl, sym, ap, ap₂, _∙_}
+use mathlib.Core.Bool.{Bool, true, false, _&&_, and-eq-true-iff}
+use Prim.Native.Nat.{ℕ, zero, suc, _+_, _-_, _*_, _/_, _%_, _^_, _≤_, _<_}
+use native.Mathlib.Decide.{decLe}
+use native.Mathlib.Nat.{div-add-mod', eq-of-mul-eq-mul-right, le-antisymm, lt-of-not-le, mul-pos, mul-mod-left}
+use native.Mathlib.Omega.{arith}
+use lib.Dec.{leb, eqb, lit≤}
+use lib.Ieee.{minus, up, down}
+use lib.Ieee.Digits.{minus-val}
+use lib.Ieee.Fits.{down-pos}
+use lib.IntN.{ℤ, pos, negsuc, natAbs, _*ℤ_}
+use lib.Pow.{pow-add, pow-pos}
+use lib.Signed.{leZ}
+use borrow.Author.Tests.{leb-true, le-leb, eqb-true, eq-eqb, ne-eqb}
+use Rattle.numbers.specs.Codes.{normalized, decoded, encoded, fieldOf, belowNormal, isEqual}
+use Rattle.numbers.specs.Fraction.{Fraction, Equal, signed, value}
+use Rattle.numbers.specs.Layout.{IsFormat}
+use Rattle.numbers.specs.Number.{isWorkingExponent, isWorking}
+use Rattle.numbers.specs.Rounding.{round}
+use Rattle.numbers.specs.declared.code.Format.{Format}
+use Rattle.numbers.specs.declared.number.Number.{Number}
+use Rattle.numbers.specs.declared.number.Number.the-variants.{Zero, Finite}
+use Rattle.numbers.specs.declared.task.Mode.the-variants.{Trunc}
+use Rattle.numbers.proofs.Laws.Bias.{biased-working}
+use Rattle.numbers.proofs.Laws.Bounds.{kept-number}
+use Rattle.numbers.proofs.Laws.Exponent.{minus-same}
+use Rattle.numbers.proofs.Laws.Operands.{working-parts}
+use Rattle.numbers.proofs.Laws.Places.{place-normal, place-below}
+use Rattle.numbers.proofs.Laws.Rounded.{value-fraction}
+use Rattle.numbers.proofs.Laws.Signs.{abs-signed, signed-times, signed-zero}
+use Rattle.numbers.proofs.Laws.Value.{value-alone, equal-magnitudes}
+
+-- ---- values of two exponents
+
+-- S × 2^a and T × 2^b, scaled down by 2^o: equal in cross products exactly where they are equal
+cross : (S T a b o c : ℕ) → S * 2 ^ a ≡ T * 2 ^ b → S * up (minus a o) * (c * down (minus b o)) ≡ T * up (minus b o) * (c * down (minus a o))
+cross S T a b o c h =
+    eq-of-mul-eq-mul-right (2 ^ o) (pow-pos o) (S * up (minus a o) * (c * down (minus b o))) (T * up (minus b o) * (c * down (minus a o)))
+    (omega (
+      arith,
+      ap (λ (n : ℕ). n * (c * down (minus b o))) (minus-val S a o),
+      ap (λ (n : ℕ). n * (c * down (minus a o))) (minus-val T b o),
+      ap (λ (n : ℕ). n * (c * down (minus a o) * down (minus b o))) h,
+    ))
+
+uncross : (S T a b o c : ℕ) → 0 < c → S * up (minus a o) * (c * down (minus b o)) ≡ T * up (minus b o) * (c * down (minus a o)) → S * 2 ^ a ≡ T * 2 ^ b
+uncross S T a b o c c0 h =
+    eq-of-mul-eq-mul-right (c * down (minus a o) * down (minus b o)) (mul-pos (mul-pos c0 (down-pos (minus a o))) (down-pos (minus b o))) (S * 2 ^ a) (T * 2 ^ b)
+    (omega (
+      arith,
+      ap (λ (n : ℕ). n * (c * down (minus b o))) (minus-val S a o),
+      ap (λ (n : ℕ). n * (c * down (minus a o))) (minus-val T b o),
+      ap (λ (n : ℕ). n * 2 ^ o) h,
+    ))
+
+pub same-value : (s : Bool) (S T a b o : ℕ) → S * 2 ^ a ≡ T * 2 ^ b → Equal (value (Finite s (minus a o) S)) (value (Finite s (minus b o) T))
+unfolding Equal value
+same-value s S T a b o h =
+    signed-times s (S * up (minus a o)) (2 ^ 63 * down (minus b o))
+    ∙ ap (signed s) (cross S T a b o (2 ^ 63) h)
+    ∙ sym (signed-times s (T * up (minus b o)) (2 ^ 63 * down (minus a o)))
+
+pub value-same : (s : Bool) (S T a b o : ℕ) → Equal (value (Finite s (minus a o) S)) (value (Finite s (minus b o) T)) → S * 2 ^ a ≡ T * 2 ^ b
+unfolding value
+value-same s S T a b o h =
+    uncross S T a b o (2 ^ 63) (pow-pos 63)
+    (ap (λ (n : ℕ). n * (2 ^ 63 * down (minus b o))) (sym (abs-signed s (S * up (minus a o))))
+    ∙ equal-magnitudes (value (Finite s (minus a o) S)) (value (Finite s (minus b o) T)) h
+    ∙ ap (λ (n : ℕ). n * (2 ^ 63 * down (minus a o))) (abs-signed s (T * up (minus b o))))
+
+-- ---- normalized numbers
+
+-- numbers of one value are normalized to one number, and a working number is normalized already
+pub normalized-equal : (x y : Number) → Equal (value x) (value y) → normalized x ≡ normalized y
+unfolding normalized
+normalized-equal x y h = value-alone 64 (value x) (value y) (lit≤ tt) (value-fraction x) (value-fraction y) h .rounds Trunc
+
+finite-kept : (s : Bool) (e : ℤ) (S : ℕ) → 2 ^ 63 ≤ S → S < 2 ^ 64 → normalized (Finite s e S) ≡ Finite s e S
+unfolding normalized
+finite-kept s e S low high =
+    let one : S * 2 ^ (64 - 64) ≡ S = omega arith in
+    rw one at (kept-number Trunc 64 s e S (lit≤ tt) (lit≤ tt) low high)
+
+pub normalized-working : (x : Number) → isWorking x ≡ true → normalized x ≡ x
+unfolding normalized round value
+normalized-working Zero h = refl
+normalized-working (Finite s e S) h = let w = working-parts (Finite s e S) s e S h refl in finite-kept s e S (w .top) (w .word)
+
+-- the top bit comes to its place, and the exponent goes down with it
+pub normalized-shift : (s : Bool) (b S z : ℕ) → z ≤ b → 2 ^ 63 ≤ S * 2 ^ z → S * 2 ^ z < 2 ^ 64
+    → Equal (value (Finite s (minus b 65535) S)) (value (Finite s (minus (b - z) 65535) (S * 2 ^ z))) × (normalized (Finite s (minus b 65535) S) ≡ Finite s (minus (b - z) 65535) (S * 2 ^ z))
+normalized-shift s b S z h low high =
+    let there = Finite s (minus (b - z) 65535) (S * 2 ^ z) in
+    let moved : S * 2 ^ b ≡ S * 2 ^ z * 2 ^ (b - z) = ap (λ (n : ℕ). S * 2 ^ n) (let k : b ≡ z + (b - z) = omega arith in k) ∙ omega (arith, ap (λ (n : ℕ). S * n) (pow-add 2 z (b - z))) in
+    let equal = same-value s S (S * 2 ^ z) b (b - z) 65535 moved in
+    (equal, normalized-equal (Finite s (minus b 65535) S) there equal ∙ finite-kept s (minus (b - z) 65535) (S * 2 ^ z) low high)
+
+pub normalized-zero : (s : Bool) (e : ℤ) → normalized (Finite s e 0) ≡ Zero
+unfolding normalized round value
+normalized-zero s e = let none : natAbs (signed s (0 * up e)) ≡ 0 = abs-signed s (0 * up e) ∙ omega arith in rw none
+
+-- ---- the test of two fractions
+
+order-both : (a b : ℤ) → leZ a b ≡ true → leZ b a ≡ true → a ≡ b
+order-both (pos a) (pos b) h k = ap pos (le-antisymm (leb-true a b h) (leb-true b a k))
+order-both (pos a) (negsuc b) h k = absurd (let z : _≡_ {A = ℕ} 0 1 = cc in omega arith)
+order-both (negsuc a) (pos b) h k = absurd (let z : _≡_ {A = ℕ} 0 1 = cc in omega arith)
+order-both (negsuc a) (negsuc b) h k = ap negsuc (le-antisymm (leb-true a b k) (leb-true b a h))
+
+order-same : (a : ℤ) → leZ a a ≡ true
+order-same (pos a) = le-leb a a (omega arith)
+order-same (negsuc a) = le-leb a a (omega arith)
+
+pub equal-test : (x y : Fraction) → isEqual x y ≡ true → Equal x y
+unfolding isEqual Equal
+equal-test x y h =
+    let a = x .numerator *ℤ pos (y .denominator) in
+    let b = y .numerator *ℤ pos (x .denominator) in
+    let both = and-eq-true-iff (leZ a b) (leZ b a) .0 h in
+    order-both a b (both .0) (both .1)
+
+pub equal-passes : (x y : Fraction) → Equal x y → isEqual x y ≡ true
+unfolding isEqual Equal
+equal-passes x y h = let same = order-same (y .numerator *ℤ pos (x .denominator)) in rw (h, same)
+
+-- two tests that hold together are one
+one-test : (a b : Bool) → (a ≡ true → b ≡ true) → (b ≡ true → a ≡ true) → a ≡ b
+one-test true b h k = sym (h refl)
+one-test false true h k = k refl
+one-test false false h k = refl
+
+-- ---- a number cut to the bits of a code
+
+-- S, cut by q and moved back, is S where nothing is cut off
+cut-back : (S q : ℕ) → S % q ≡ 0 → S / q * q ≡ S
+cut-back S q h = omega (arith, div-add-mod' S q)
+
+-- the exponent of the code is that of the number, or the lowest one
+pub encoded-exponent : (f : Format) (s : Bool) (b S : ℕ) → IsFormat f → decoded f (encoded f s (minus b 65535) S) ≡ Finite s (minus (b + belowNormal f (minus b 65535)) 65535) (S / 2 ^ (belowNormal f (minus b 65535) + (64 - f .precision)) * 2 ^ (64 - f .precision))
+unfolding decoded encoded
+encoded-exponent f s b S formed = go (decLe 65536 (b + f .bias))
+  where
+    low : f .bias ≤ 32767
+    low = formed .small-bias
+
+    go : Dec (65536 ≤ b + f .bias) → decoded f (encoded f s (minus b 65535) S) ≡ Finite s (minus (b + belowNormal f (minus b 65535)) 65535) (S / 2 ^ (belowNormal f (minus b 65535) + (64 - f .precision)) * 2 ^ (64 - f .precision))
+    go (yes h) =
+        let place = place-normal f b formed h in
+        rw (place .0, place .1, ne-eqb (b + f .bias - 65535) 0 (λ (z : b + f .bias - 65535 ≡ 0). omega arith), minus-same (b + f .bias - 65535) (f .bias) (b + 0) 65535 (omega arith))
+    go (no n) =
+        let h : b + f .bias < 65536 = lt-of-not-le n in
+        let place = place-below f b formed h in
+        rw (place .0, place .1, minus-same 1 (f .bias) (b + (65536 - (b + f .bias))) 65535 (omega arith))
+
+-- a number and the code that has its upper bits are equal where the bits below are 0
+pub encoded-equal : (f : Format) (s : Bool) (e : ℤ) (S : ℕ) → IsFormat f → isWorkingExponent e ≡ true
+    → isEqual (value (decoded f (encoded f s e S))) (value (Finite s e S)) ≡ eqb (S % 2 ^ (belowNormal f e + (64 - f .precision))) 0
+encoded-equal f s e S formed working = let w = biased-working e working in rw (w .3) (at (w .0))
+  where
+    at : (b : ℕ) → isEqual (value (decoded f (encoded f s (minus b 65535) S))) (value (Finite s (minus b 65535) S)) ≡ eqb (S % 2 ^ (belowNormal f (minus b 65535) + (64 - f .precision))) 0
+    at b = rw (encoded-exponent f s b S formed) (one-test (isEqual (value code) (value (Finite s (minus b 65535) S))) (eqb (S % q) 0) there back)
+      where
+        k : ℕ
+        k = belowNormal f (minus b 65535)
+
+        q : ℕ
+        q = 2 ^ (k + (64 - f .precision))
+
+        code : Number
+        code = Finite s (minus (b + k) 65535) (S / q * 2 ^ (64 - f .precision))
+
+        moved : S / q * 2 ^ (64 - f .precision) * 2 ^ (b + k) ≡ S / q * q * 2 ^ b
+        moved = omega (arith, ap (λ (n : ℕ). S / q * 2 ^ (64 - f .precision) * n) (pow-add 2 b k), ap (λ (n : ℕ). S / q * n * 2 ^ b) (pow-add 2 k (64 - f .precision)))
+
+        there : isEqual (value code) (value (Finite s (minus b 65535) S)) ≡ true → eqb (S % q) 0 ≡ true
+        there h =
+            let cross = value-same s (S / q * 2 ^ (64 - f .precision)) S (b + k) b 65535 (equal-test (value code) (value (Finite s (minus b 65535) S)) h) in
+            let whole : S / q * q ≡ S = eq-of-mul-eq-mul-right (2 ^ b) (pow-pos b) (S / q * q) S (sym moved ∙ cross) in
+            eq-eqb (S % q) 0 (omega (arith, div-add-mod' S q))
+
+        back : eqb (S % q) 0 ≡ true → isEqual (value code) (value (Finite s (minus b 65535) S)) ≡ true
+        back h =
+            let whole : S / q * q ≡ S = cut-back S q (eqb-true (S % q) 0 h) in
+            equal-passes (value code) (value (Finite s (minus b 65535) S))
+            (same-value s (S / q * 2 ^ (64 - f .precision)) S (b + k) b 65535 (moved ∙ ap (λ (n : ℕ). n * 2 ^ b) whole))

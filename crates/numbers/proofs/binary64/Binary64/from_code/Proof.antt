@@ -1,0 +1,40 @@
+-- `numbers::binary64::Binary64::from_code` meets its contract. The sign is at most 1 and the field below 2^11, so no product or sum overflows.
+-- Assumes nothing.
+use borrow.Author.Needs.{needs}
+use Prim.Native.Nat.{_+_, _*_, _<_}
+use native.Mathlib.Omega.{arith}
+use Rattle.numbers.specs.Codes.{binary64, exponentBits, join}
+use Rattle.numbers.proofs.Laws.Bytes.{upper-below}
+use Rattle.numbers.proofs.binary64.Binary64.from_code.Statement.{statement}
+use Rattle.numbers.proofs.binary64.Binary64.from_code.Tie as tie
+
+sign-of-requires : tie.Need-sign-of-requires
+sign-of-requires c κs = search needs
+
+-- the sign and the field have 12 bits
+room : (c : tie.After-sign-of) → c .sign-of .result * 2048 + c .before .args .code .field < 4096
+unfolding exponentBits binary64
+room c = upper-below binary64 _ _ (c .before .pre) (c .sign-of .ensures)
+
+mul-upper : tie.Need-mul-upper
+mul-upper c = omega (arith, room c)
+
+cast-upper : tie.Need-cast-upper
+cast-upper c = search needs
+
+add-upper : tie.Need-add-upper
+add-upper c = omega (arith, room (c .before))
+
+mul-t3 : tie.Need-mul-t3
+mul-t3 c = omega (arith, room (c .before))
+
+add-t4 : tie.Need-add-t4
+add-t4 c = omega (arith, room (c .before .before))
+
+returns : tie.Need-returns
+unfolding join exponentBits binary64
+returns c = rw (c .before .before .sign-of .ensures)
+
+pub from-code-spec : {M : Type 1} → statement M
+from-code-spec =
+    tie.close (tie.spec sign-of-requires mul-upper cast-upper add-upper mul-t3 add-t4 returns)

@@ -1,0 +1,30 @@
+-- `numbers::binary64::Binary64::read` meets its contract: the bytes are taken apart, and their number is answered.
+use borrow.Author.Needs.{needs}
+use Rattle.numbers.specs.Codes.{binary64}
+use Rattle.numbers.proofs.Laws.Entries.{read-wrong-length, read-number, read-requires}
+use Rattle.numbers.proofs.Laws.Parts.{binary64-format}
+use Rattle.numbers.proofs.binary64.Binary64.read.Statement.{statement}
+use Rattle.numbers.proofs.binary64.Binary64.read.Tie as tie
+
+returns : tie.Need-returns
+unfolding binary64
+returns c = read-wrong-length binary64 _ (c .if1 .taken)
+
+from-bytes-requires : tie.Need-from-bytes-requires
+from-bytes-requires c κs = search needs
+
+code-requires : tie.Need-code-requires
+code-requires c κs = search needs
+
+format-requires : tie.Need-format-requires
+format-requires c κs = search needs
+
+number-of-requires : tie.Need-number-of-requires
+number-of-requires c κs = read-requires binary64 _ _ _ binary64-format (c .format .ensures) (c .before .code .ensures)
+
+returns-2 : tie.Need-returns-2
+unfolding binary64
+returns-2 c = read-number binary64 _ _ _ _ _ (c .before .before .before .before .if1 .left) (c .before .format .ensures) (c .before .before .before .from-bytes .ensures) (c .before .before .code .ensures) (c .number-of .ensures)
+
+pub read-spec : {M : Type 1} → statement M
+read-spec = tie.close (tie.spec returns from-bytes-requires code-requires format-requires number-of-requires returns-2)

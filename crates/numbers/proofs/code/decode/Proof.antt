@@ -1,0 +1,127 @@
+-- `numbers::code::decode` meets its contract: the refusals in their order, and then the exponent and the significand of the code.
+use mathlib.Core.Path.{_≡_, sym, ap, _∙_}
+use mathlib.Core.Bool.{Bool, true, false, cond}
+use Prim.Native.Nat.{ℕ, suc, _+_, _-_, _*_, _%_, _^_, _≤_, _<_}
+use native.Mathlib.Nat.{mod-eq-of-lt, mul-lt-mul-of-pos-right}
+use native.Mathlib.Omega.{arith}
+use lib.Dec.{eqb}
+use lib.Ieee.{minus}
+use lib.IntN.{ℤ}
+use lib.Pow.{pow-pos}
+use mir.Facts.{toZ-ofZ}
+use mir.Syntax.{w32}
+use mir.Val.{SFits, toZ, ofZ}
+use borrow.Author.Needs.{needs}
+use borrow.Author.Tests.{eq-eqb, ne-eqb, not-true, not-false}
+use Rattle.numbers.specs.Codes.{reading, allOnes, isCanonical, judgedCode, decoded}
+use Rattle.numbers.specs.Layout.{IsFormat, IsCode}
+use Rattle.numbers.specs.declared.code.Code.{Code}
+use Rattle.numbers.specs.declared.code.Format.{Format}
+use Rattle.numbers.specs.declared.code.Reading.the-variants.{Given, AllOnes, Noncanonical}
+use Rattle.numbers.specs.declared.number.Number.{Number}
+use Rattle.numbers.specs.declared.number.Number.the-variants.{Finite}
+use Rattle.numbers.proofs.Laws.Exponent.{minus-same}
+use Rattle.numbers.proofs.Laws.Powers.{word-power}
+use Rattle.numbers.proofs.code.decode.Statement.{statement}
+use Rattle.numbers.proofs.code.decode.Tie as tie
+
+module _ (f : Format) (c : Code) (x : Number) (formed : IsFormat f) (fits : IsCode f c) where
+  ones : allOnes f ≡ 2 * f .bias + 1
+  unfolding allOnes
+  ones = omega (arith, formed .fields)
+
+  all-ones : c .field ≡ 2 * f .bias + 1 → reading AllOnes ≡ judgedCode f c x
+  unfolding reading judgedCode
+  all-ones h = rw (eq-eqb (c .field) (allOnes f) (h ∙ sym ones))
+
+  module _ (apart : c .field ≡ 2 * f .bias + 1 → ⊥) (canonical : Bool) (is : canonical ≡ isCanonical f c) where
+    no-ones : eqb (c .field) (allOnes f) ≡ false
+    no-ones = ne-eqb (c .field) (allOnes f) (λ (z : c .field ≡ allOnes f). apart (z ∙ ones))
+
+    noncanonical : canonical ≡ false → reading Noncanonical ≡ judgedCode f c x
+    unfolding reading judgedCode
+    noncanonical h = rw (no-ones, sym is ∙ h)
+
+    through : canonical ≡ true → reading (Given x) ≡ judgedCode f c x
+    unfolding reading judgedCode
+    through h = rw (no-ones, sym is ∙ h)
+
+  -- the exponent, biased
+  counted-most : (k : ℕ) → k ≡ cond (eqb (c .field) 0) 1 (c .field) → k + (65535 - f .bias) ≤ 98304
+  counted-most k h = go (eqb (c .field) 0) (ap (λ (n : ℕ). n) h)
+    where
+      go : (t : Bool) → k ≡ cond t 1 (c .field) → k + (65535 - f .bias) ≤ 98304
+      go true e = omega (arith, formed .small-bias)
+      go false e = omega (arith, formed .small-bias, formed .fields, fits .field-fits)
+
+  exponent-is : (k : ℕ) (r : ℤ) → k ≡ cond (eqb (c .field) 0) 1 (c .field) → SFits w32 r → r ≡ minus (k + (65535 - f .bias)) 65535
+      → toZ w32 (ofZ w32 r) ≡ minus (cond (eqb (c .field) 0) 1 (c .field)) (f .bias)
+  exponent-is k r h range e =
+      toZ-ofZ range ∙ e ∙ minus-same (k + (65535 - f .bias)) 65535 k (f .bias) (omega (arith, formed .small-bias)) ∙ ap (λ (n : ℕ). minus n (f .bias)) h
+
+  significand-is : c .significand * 2 ^ (64 - f .precision) % 18446744073709551616 ≡ c .significand * 2 ^ (64 - f .precision)
+  significand-is =
+      mod-eq-of-lt {m = 18446744073709551616}
+      (rw (word-power (f .precision) (formed .word-bits)) at (mul-lt-mul-of-pos-right {k = 2 ^ (64 - f .precision)} (fits .significand-fits) (pow-pos (64 - f .precision))))
+
+number-is : (f : Format) (c : Code) → IsFormat f → IsCode f c → (k : ℕ) (r : ℤ) → k ≡ cond (eqb (c .field) 0) 1 (c .field) → SFits w32 r → r ≡ minus (k + (65535 - f .bias)) 65535
+    → decoded f c ≡ Finite (c .negative) (toZ w32 (ofZ w32 r)) (c .significand * 2 ^ (64 - f .precision) % 18446744073709551616)
+unfolding decoded
+number-is f c formed fits k r h range e = rw (exponent-is f c (decoded f c) formed fits k r h range e, significand-is f c (decoded f c) formed fits)
+
+given-number : (f : Format) (c : Code) (x : Number) → x ≡ decoded f c → reading (Given (decoded f c)) ≡ judgedCode f c (decoded f c) → reading (Given x) ≡ judgedCode f c (decoded f c)
+given-number f c x is h = rw is h
+
+mul-if1 : tie.Need-mul-if1
+mul-if1 c = search needs
+
+add-if1 : tie.Need-add-if1
+add-if1 c = search needs
+
+returns : tie.Need-returns
+returns c = let start = c .before .before .before in all-ones _ _ _ (start .pre .0) (start .pre .1) (c .if1 .taken)
+
+is-canonical-requires : tie.Need-is-canonical-requires
+is-canonical-requires c κs = search needs
+
+returns-2 : tie.Need-returns-2
+returns-2 c =
+    let start = c .before .before .before .before .before in
+    noncanonical _ _ _ (start .pre .0) (start .pre .1) (c .before .before .if1 .left) _ (c .before .is-canonical .ensures) (not-true _ (c .if2 .taken))
+
+counted-requires : tie.Need-counted-requires
+counted-requires c κs = search needs
+
+sub-unbiased : tie.Need-sub-unbiased
+sub-unbiased c = search needs
+
+add-unbiased : tie.Need-add-unbiased
+add-unbiased c =
+    let start = c .before .before .before .before .before .before .before in
+    record { fits = omega (arith, counted-most _ (start .args .code) (decoded (start .args .format) (start .args .code)) (start .pre .0) (start .pre .1) _ (c .before .counted .ensures)) }
+
+unbiased-requires : tie.Need-unbiased-requires
+unbiased-requires c κs =
+    let start = c .before .before .before .before .before .before .before in
+    omega (arith, counted-most _ (start .args .code) (decoded (start .args .format) (start .args .code)) (start .pre .0) (start .pre .1) _ (c .before .counted .ensures))
+
+sub-t9 : tie.Need-sub-t9
+sub-t9 c = search needs
+
+cast-t10 : tie.Need-cast-t10
+cast-t10 c = search needs
+
+shl-t11 : tie.Need-shl-t11
+shl-t11 c = search needs
+
+returns-3 : tie.Need-returns-3
+returns-3 c =
+    let start = c .before .before .before .before .before .before .before .before .before .before in
+    given-number _ _ _
+    (sym (number-is _ _ (start .pre .0) (start .pre .1) _ _ (c .before .before .before .before .counted .ensures) (record { sfits = c .before .before .unbiased .ok }) (c .before .before .unbiased .ensures)))
+    (through _ _ _ (start .pre .0) (start .pre .1) (c .before .before .before .before .before .before .before .if1 .left) _ (c .before .before .before .before .before .before .is-canonical .ensures) (not-false _ (c .before .before .before .before .before .if2 .left)))
+
+pub decode-spec : {M : Type 1} → statement M
+decode-spec =
+    tie.close
+    (tie.spec mul-if1 add-if1 returns is-canonical-requires returns-2 counted-requires sub-unbiased add-unbiased unbiased-requires sub-t9 cast-t10 shl-t11 returns-3)

@@ -1,0 +1,13 @@
+-- `numbers::double_extended::DoubleExtended::format` meets its contract: the constants are those of the definition.
+-- Assumes nothing.
+use mathlib.Core.Path.{refl}
+use Rattle.numbers.specs.Codes.{doubleExtended}
+use Rattle.numbers.proofs.double_extended.DoubleExtended.format.Statement.{statement}
+use Rattle.numbers.proofs.double_extended.DoubleExtended.format.Tie as tie
+
+returns : tie.Need-returns
+unfolding doubleExtended
+returns c = refl
+
+pub format-spec : {M : Type 1} → statement M
+format-spec = tie.close (tie.spec returns)

@@ -1,0 +1,39 @@
+-- `numbers::double_extended::DoubleExtended::from_code` meets its contract. The sign is at most 1 and the field below 2^15, so no product or sum overflows.
+-- Assumes nothing.
+use borrow.Author.Needs.{needs}
+use Prim.Native.Nat.{_+_, _*_, _<_}
+use native.Mathlib.Nat.{mod-eq-of-lt}
+use native.Mathlib.Omega.{arith}
+use Rattle.numbers.specs.Codes.{doubleExtended, exponentBits, join}
+use Rattle.numbers.specs.Words.{wide}
+use Rattle.numbers.proofs.Laws.Bytes.{upper-below}
+use Rattle.numbers.proofs.double_extended.DoubleExtended.from_code.Statement.{statement}
+use Rattle.numbers.proofs.double_extended.DoubleExtended.from_code.Tie as tie
+
+sign-of-requires : tie.Need-sign-of-requires
+sign-of-requires c κs = search needs
+
+-- the sign and the field have 16 bits
+room : (c : tie.After-sign-of) → c .sign-of .result * 32768 + c .before .args .code .field < 65536
+unfolding exponentBits doubleExtended
+room c = upper-below doubleExtended _ _ (c .before .pre) (c .sign-of .ensures)
+
+mul-upper : tie.Need-mul-upper
+mul-upper c = omega (arith, room c)
+
+cast-upper : tie.Need-cast-upper
+cast-upper c = search needs
+
+add-upper : tie.Need-add-upper
+add-upper c = omega (arith, room (c .before))
+
+cast-t6 : tie.Need-cast-t6
+cast-t6 c = omega (arith, room (c .before))
+
+returns : tie.Need-returns
+unfolding join exponentBits doubleExtended wide
+returns c = rw (c .before .sign-of .ensures, mod-eq-of-lt (c .before .before .pre .significand-fits))
+
+pub from-code-spec : {M : Type 1} → statement M
+from-code-spec =
+    tie.close (tie.spec sign-of-requires mul-upper cast-upper add-upper cast-t6 returns)

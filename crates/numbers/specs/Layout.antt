@@ -1,0 +1,56 @@
+-- The terms that the laws of codes and private contracts are stated in; no promise of a public function cites them.
+use mathlib.Core.Path.{_≡_}
+use mathlib.Core.Bool.{Bool, true}
+use mathlib.Core.List.{List}
+use mathlib.Core.Option.{Option, none, some}
+use Prim.Native.Nat.{ℕ, suc, _+_, _*_, _^_, _≤_, _<_}
+use lib.Ieee.{minus}
+use lib.IntN.{pos, negℤ}
+use lib.ListN.{getD}
+use Rattle.numbers.specs.Answer.{given}
+use Rattle.numbers.specs.Codes.{exponentBits, readingOf}
+use Rattle.numbers.specs.Fraction.{Equal, value}
+use Rattle.numbers.specs.Number.{isBetween}
+use Rattle.numbers.specs.declared.code.Code.{Code}
+use Rattle.numbers.specs.declared.code.Format.{Format}
+use Rattle.numbers.specs.declared.code.Packing.{Packing}
+use Rattle.numbers.specs.declared.code.Packing.the-variants as pack
+use Rattle.numbers.specs.declared.number.Number.{Number}
+use Rattle.numbers.specs.declared.number.Number.the-variants.{Zero, Finite}
+
+-- What the constants of a format have to do with each other. A code stores all bits of a significand or all but the top one; the bias is half
+-- of the fields; the ends are the exponents of field 1 and of the highest field that is a number.
+pub record IsFormat (f : Format) : Type 0 where
+  pub some-bits : 1 ≤ f .precision
+  pub word-bits : f .precision ≤ 64
+  pub stored-most : f .stored ≤ f .precision
+  pub stored-least : f .precision ≤ f .stored + 1
+  pub layout : f .stored + exponentBits f + 1 ≡ 8 * f .length
+  pub fields : 2 ^ exponentBits f ≡ 2 * f .bias + 2
+  pub some-bias : 1 ≤ f .bias
+  pub small-bias : f .bias ≤ 32767
+  pub lowest-is : f .lowest ≡ minus 1 (f .bias)
+  pub highest-is : f .highest ≡ pos (f .bias)
+
+-- a code's parts have room in the format
+pub record IsCode (f : Format) (c : Code) : Type 0 where
+  pub field-fits : c .field < 2 ^ exponentBits f
+  pub significand-fits : c .significand < 2 ^ f .precision
+
+-- each element is a byte
+unfoldable pub IsBytes : List ℕ → Type 0
+IsBytes bytes = (i : ℕ) → getD bytes i 0 < 256
+
+-- some code of the format stands for a number of the same value
+unfoldable pub HasEqualCode : Format → Number → Type 0
+HasEqualCode f x = (bytes : List ℕ) × IsBytes bytes × (y : Number) × (readingOf f bytes ≡ given y) × Equal (value y) (value x)
+
+-- at least 63 above the lowest working exponent, so that a shift of the significand leaves a working one
+unfoldable pub isNormalizable : Number → Bool
+isNormalizable Zero = true
+isNormalizable (Finite negative e S) = isBetween (negℤ (pos 65472)) (pos 65536) e
+
+-- what a packing holds
+unfoldable pub packing : Packing → Option Code
+packing (pack.Code c) = some c
+packing pack.NoEqualCode = none

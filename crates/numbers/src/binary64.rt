@@ -1,0 +1,133 @@
+// Binary64: 8 bytes, the lowest first, that hold 52 fraction bits, 11 exponent bits and the sign bit.
+// The leading one of a normal number is not stored.
+ghost use mathlib.Core.Path.{_≡_};
+ghost use lib.ListN.{length};
+ghost use Rattle.numbers.specs.Codes.{binary64, littleEndian, bytesOf, leadingOne, split, join, reading, readingOf, left, writingOf};
+ghost use Rattle.numbers.specs.Layout.{IsCode};
+use super::code::Code;
+use super::code::Format;
+use super::code::Packing;
+use super::code::Reading;
+use super::code::Writing;
+use super::code::number_of;
+use super::code::pack;
+use super::code::sign_of;
+use super::little_endian;
+use super::number::Number;
+use super::number::is_working;
+
+// The bits of a code: the fraction, above it the exponent field, and the sign.
+pub struct Binary64 {
+    pub bits: u64,
+}
+
+// 2^52, above the fraction, and 2^11, above the exponent field.
+const FRACTIONS: u64 = 0x10_0000_0000_0000;
+
+const FIELDS: u64 = 2_048;
+
+// The leading one of a normal number.
+fn leading_one(field: u64) -> u64
+    ensures { λ r. ⌜ r ≡ leadingOne binary64 field ⌝ }
+{
+    if field > 0 { FRACTIONS } else { 0 }
+}
+
+impl Binary64 {
+    // Bytes of a code, bits of a significand with its leading one, what is added to an exponent, and
+    // the exponents of the normal numbers.
+    pub const LENGTH: usize = 8;
+
+    pub const PRECISION: u32 = 53;
+
+    pub const BIAS: u32 = 1_023;
+
+    pub const LOWEST: i32 = -1_022;
+
+    pub const HIGHEST: i32 = 1_023;
+
+    // The number in a code, or why there is none.
+    pub fn read(bytes: &[u8]) -> Reading
+        ensures { λ r. ⌜ reading r ≡ readingOf binary64 (now (bytes .entry)) ⌝ }
+    {
+        if bytes.len() != Self::LENGTH {
+            return Reading::WrongLength;
+        }
+        number_of(Self::from_bytes(bytes).code(), Self::format())
+    }
+
+    // Writes the code that equals x, or leaves the bytes as they were.
+    pub fn write(x: Number, bytes: &mut [u8]) -> Writing
+        ensures { λ r. ⌜ left r (now (bytes .exit)) ≡ writingOf binary64 x (now (bytes .entry)) ⌝ }
+    {
+        if !is_working(x) {
+            return Writing::Unfit;
+        }
+        if bytes.len() != Self::LENGTH {
+            return Writing::WrongLength;
+        }
+        let found = pack(x, Self::format());
+        let Packing::Code(code) = found else {
+            return Writing::NoEqualCode;
+        };
+        Self::from_code(code).write_bytes(bytes);
+        Writing::Written
+    }
+
+    // The format's constants.
+    fn format() -> Format
+        ensures { λ r. ⌜ r ≡ binary64 ⌝ }
+    {
+        Format {
+            length: Self::LENGTH,
+            precision: Self::PRECISION,
+            stored: Self::PRECISION - 1,
+            bias: Self::BIAS,
+            lowest: Self::LOWEST,
+            highest: Self::HIGHEST,
+        }
+    }
+
+    // The code in eight bytes.
+    fn from_bytes(bytes: &[u8]) -> Binary64
+        requires { ⌜ length (now bytes) ≡ 8 ⌝ }
+        ensures { λ r. ⌜ r .bits ≡ littleEndian (now (bytes .entry)) ⌝ }
+    {
+        Binary64 {
+            bits: little_endian::read(bytes),
+        }
+    }
+
+    // Puts the code into eight bytes.
+    fn write_bytes(self, bytes: &mut [u8])
+        requires { ⌜ length (now bytes) ≡ 8 ⌝ }
+        ensures { λ _. ⌜ now (bytes .exit) ≡ bytesOf 8 (self .bits) ⌝ }
+    {
+        little_endian::write(bytes, self.bits);
+    }
+
+    // The code with these parts.
+    fn from_code(code: Code) -> Binary64
+        requires { ⌜ IsCode binary64 code ⌝ }
+        ensures { λ r. ⌜ r .bits ≡ join binary64 code ⌝ }
+    {
+        let upper = sign_of(code.negative) * FIELDS + code.field as u64;
+        Binary64 {
+            bits: upper * FRACTIONS + code.significand % FRACTIONS,
+        }
+    }
+
+    // The parts of the code.
+    fn code(self) -> Code
+        ensures { λ r. ⌜ r ≡ split binary64 (self .bits) ⌝ }
+    {
+        let fraction = self.bits % FRACTIONS;
+        let upper = self.bits / FRACTIONS;
+        let field = upper % FIELDS;
+        Code {
+            negative: upper / FIELDS > 0,
+            field: field as u32,
+            significand: fraction + leading_one(field),
+        }
+    }
+}

@@ -1,0 +1,130 @@
+// Double-extended: 10 bytes, the lowest first, that hold the 64 bits of the significand with its
+// explicit top bit, 15 exponent bits and the sign bit.
+ghost use mathlib.Core.Path.{_≡_};
+ghost use lib.ListN.{length};
+ghost use Rattle.numbers.specs.Codes.{doubleExtended, littleEndian, bytesOf, split, join, reading, readingOf, left, writingOf};
+ghost use Rattle.numbers.specs.Layout.{IsCode};
+ghost use Rattle.numbers.specs.Words.{wide};
+use super::code::Code;
+use super::code::Format;
+use super::code::Packing;
+use super::code::Reading;
+use super::code::Writing;
+use super::code::number_of;
+use super::code::pack;
+use super::code::sign_of;
+use super::little_endian;
+use super::number::Number;
+use super::number::is_working;
+
+// The bits of a code: the significand, and above it the exponent field and the sign.
+pub struct DoubleExtended {
+    pub upper: u16,
+    pub significand: u64,
+}
+
+// 2^15, above the exponent field.
+const FIELDS: u64 = 32_768;
+
+impl DoubleExtended {
+    // Bytes of a code, bits of a significand, what is added to an exponent, and the exponents of the
+    // normal numbers.
+    pub const LENGTH: usize = 10;
+
+    pub const PRECISION: u32 = 64;
+
+    pub const BIAS: u32 = 16_383;
+
+    pub const LOWEST: i32 = -16_382;
+
+    pub const HIGHEST: i32 = 16_383;
+
+    // The number in a code, or why there is none.
+    pub fn read(bytes: &[u8]) -> Reading
+        ensures { λ r. ⌜ reading r ≡ readingOf doubleExtended (now (bytes .entry)) ⌝ }
+    {
+        if bytes.len() != Self::LENGTH {
+            return Reading::WrongLength;
+        }
+        number_of(Self::from_bytes(bytes).code(), Self::format())
+    }
+
+    // Writes the code that equals x, or leaves the bytes as they were.
+    pub fn write(x: Number, bytes: &mut [u8]) -> Writing
+        ensures { λ r. ⌜ left r (now (bytes .exit)) ≡ writingOf doubleExtended x (now (bytes .entry)) ⌝ }
+    {
+        if !is_working(x) {
+            return Writing::Unfit;
+        }
+        if bytes.len() != Self::LENGTH {
+            return Writing::WrongLength;
+        }
+        let found = pack(x, Self::format());
+        let Packing::Code(code) = found else {
+            return Writing::NoEqualCode;
+        };
+        Self::from_code(code).write_bytes(bytes);
+        Writing::Written
+    }
+
+    // The format's constants.
+    fn format() -> Format
+        ensures { λ r. ⌜ r ≡ doubleExtended ⌝ }
+    {
+        Format {
+            length: Self::LENGTH,
+            precision: Self::PRECISION,
+            stored: Self::PRECISION,
+            bias: Self::BIAS,
+            lowest: Self::LOWEST,
+            highest: Self::HIGHEST,
+        }
+    }
+
+    // The code in ten bytes.
+    fn from_bytes(bytes: &[u8]) -> DoubleExtended
+        requires { ⌜ length (now bytes) ≡ 10 ⌝ }
+        ensures { λ r. ⌜ wide (r .upper) (r .significand) ≡ littleEndian (now (bytes .entry)) ⌝ }
+    {
+        let significand = little_endian::read(&bytes[..8]);
+        let upper = little_endian::read(&bytes[8..]);
+        DoubleExtended {
+            upper: upper as u16,
+            significand,
+        }
+    }
+
+    // Puts the code into ten bytes.
+    fn write_bytes(self, bytes: &mut [u8])
+        requires { ⌜ length (now bytes) ≡ 10 ⌝ }
+        ensures { λ _. ⌜ now (bytes .exit) ≡ bytesOf 10 (wide (self .upper) (self .significand)) ⌝ }
+    {
+        little_endian::write(&mut bytes[..8], self.significand);
+        little_endian::write(&mut bytes[8..], self.upper as u64);
+    }
+
+    // The code with these parts.
+    fn from_code(code: Code) -> DoubleExtended
+        requires { ⌜ IsCode doubleExtended code ⌝ }
+        ensures { λ r. ⌜ wide (r .upper) (r .significand) ≡ join doubleExtended code ⌝ }
+    {
+        let upper = sign_of(code.negative) * FIELDS + code.field as u64;
+        DoubleExtended {
+            upper: upper as u16,
+            significand: code.significand,
+        }
+    }
+
+    // The parts of the code.
+    fn code(self) -> Code
+        ensures { λ r. ⌜ r ≡ split doubleExtended (wide (self .upper) (self .significand)) ⌝ }
+    {
+        let upper = self.upper as u64;
+        let field = upper % FIELDS;
+        Code {
+            negative: upper / FIELDS > 0,
+            field: field as u32,
+            significand: self.significand,
+        }
+    }
+}

@@ -1,15 +1,16 @@
-// Prints the answer line of a case.
+// Prints the answer line of a case: what was asked for, or `refused` with the row of document 01's
+// table that refused.
+use super::buffer;
 use super::number;
 use super::out;
 use numbers::answer::Answer;
+use numbers::code::Reading;
+use numbers::code::Writing;
 
-// Prints a number, or `refused` with the row of document 01's table that refused.
+// Prints what an operation answers.
 pub fn print(answer: Answer) {
     match answer {
-        Answer::Given(x) => {
-            number::print(x);
-            out::bytes(b"\n");
-        }
+        Answer::Given(x) => number::print(x),
         Answer::UnknownMode => refused(1),
         Answer::BadPrecision => refused(2),
         Answer::FirstUnfit => refused(3),
@@ -17,6 +18,31 @@ pub fn print(answer: Answer) {
         Answer::ExponentOutside => refused(7),
         Answer::TooManyBits => refused(8),
     }
+    out::bytes(b"\n");
+}
+
+// Prints what reading a code answers.
+pub fn print_reading(answer: Reading) {
+    match answer {
+        Reading::Given(x) => number::print(x),
+        Reading::WrongLength => refused(9),
+        Reading::AllOnes => refused(10),
+        Reading::Noncanonical => refused(11),
+    }
+    out::bytes(b"\n");
+}
+
+// Prints what writing a code answers, and what the buffer holds afterwards.
+pub fn print_writing(answer: Writing, content: &[u8]) {
+    match answer {
+        Writing::Written => out::bytes(b"written"),
+        Writing::Unfit => refused(3),
+        Writing::WrongLength => refused(9),
+        Writing::NoEqualCode => refused(12),
+    }
+    out::bytes(b" ");
+    buffer::print(content);
+    out::bytes(b"\n");
 }
 
 // Prints that a line is not a case.
@@ -27,5 +53,4 @@ pub fn print_no_case() {
 fn refused(row: u64) {
     out::bytes(b"refused ");
     out::decimal(row);
-    out::bytes(b"\n");
 }

@@ -2,12 +2,15 @@
 use super::answer;
 use super::arithmetic;
 use super::arithmetic::Operation;
+use super::codes;
+use super::codes::Entry;
+use super::codes::Format;
 use super::line;
 use super::line::Cursor;
 use super::line::Line;
 use super::line::Place;
 
-// Prints the answer to a line.
+// Prints the answer to a line. Past a code's word and its space stands a buffer.
 pub fn run(text: &Line) {
     let start = Cursor { at: 0 };
     if let Place::Past(next) = line::past(text, start, b"add") {
@@ -18,6 +21,18 @@ pub fn run(text: &Line) {
     }
     if let Place::Past(next) = line::past(text, start, b"mul") {
         return arithmetic::run(text, next, Operation::Multiply);
+    }
+    if let Place::Past(next) = line::past(text, start, b"read10 ") {
+        return codes::run(text, next, Entry::Read(Format::DoubleExtended));
+    }
+    if let Place::Past(next) = line::past(text, start, b"read8 ") {
+        return codes::run(text, next, Entry::Read(Format::Binary64));
+    }
+    if let Place::Past(next) = line::past(text, start, b"write10 ") {
+        return codes::run(text, next, Entry::Write(Format::DoubleExtended));
+    }
+    if let Place::Past(next) = line::past(text, start, b"write8 ") {
+        return codes::run(text, next, Entry::Write(Format::Binary64));
     }
     answer::print_no_case();
 }

@@ -50,7 +50,7 @@ pub fn past(text: &Line, c: Cursor, bytes: &[u8]) -> Place {
 }
 
 // The value of a decimal or hexadecimal digit, and 16 for any other byte.
-fn digit(byte: u8) -> u64 {
+pub fn digit(byte: u8) -> u64 {
     if byte < b'0' {
         return 16;
     }

@@ -2,7 +2,9 @@
 // for each. The input ends where no whole line is left.
 mod answer;
 mod arithmetic;
+mod buffer;
 mod cases;
+mod codes;
 mod line;
 mod number;
 mod out;

@@ -16,3 +16,8 @@ pub fn decimal(n: u64) {
 pub fn sixteen_digits(n: u64) {
     io::print_hex(STDOUT_FILENO, n, 16);
 }
+
+// Writes a byte in two hexadecimal digits.
+pub fn two_digits(byte: u8) {
+    io::print_hex(STDOUT_FILENO, byte as u64, 2);
+}

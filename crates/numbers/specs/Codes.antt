@@ -71,7 +71,8 @@ decoded f c = Finite (c .negative) (minus (cond (eqb (c .field) 0) 1 (c .field))
 unfoldable pub normalized : Number → Number
 normalized x = round Trunc 64 (value x)
 
--- Row 11: "negative zero; double-extended with top bit set at field 0 or clear at another field". In binary64 the top bit is set at no field but 0.
+-- Row 11: "negative zero; double-extended with top bit set at field 0 or clear at another field". A binary64 significand has its top bit set at every
+-- field but 0 as it is taken apart, so that there only negative zero is left.
 unfoldable pub isCanonical : Format → Code → Bool
 isCanonical f c = Bool·beq (leb (2 ^ (f .precision - 1)) (c .significand)) (ltb 0 (c .field)) && not (c .negative && eqb (c .significand) 0)
 

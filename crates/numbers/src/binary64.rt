@@ -18,7 +18,7 @@ use super::number::is_working;
 
 // The bits of a code: the fraction, above it the exponent field, and the sign.
 pub struct Binary64 {
-    pub bits: u64,
+    bits: u64,
 }
 
 // 2^52, above the fraction, and 2^11, above the exponent field.

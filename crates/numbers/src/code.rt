@@ -71,10 +71,12 @@ fn decode(code: Code, format: Format) -> Reading
     requires { ⌜ IsFormat format × IsCode format code ⌝ }
     ensures { λ r. ⌜ reading r ≡ judgedCode format code (decoded format code) ⌝ }
 {
-    if code.field == 2 * format.bias + 1 {
+    let all_ones = 2 * format.bias + 1;
+    let canonical = is_canonical(code, format);
+    if code.field == all_ones {
         return Reading::AllOnes;
     }
-    if !is_canonical(code, format) {
+    if !canonical {
         return Reading::Noncanonical;
     }
     Reading::Given(Number::Finite {

@@ -19,8 +19,8 @@ use super::number::is_working;
 
 // The bits of a code: the significand, and above it the exponent field and the sign.
 pub struct DoubleExtended {
-    pub upper: u16,
-    pub significand: u64,
+    upper: u16,
+    significand: u64,
 }
 
 // 2^15, above the exponent field.

@@ -1,7 +1,7 @@
 -- A number normalized: the fit number of the same value, if there is one. And a number cut to a code's bits: it equals the code where no set bit
 -- was cut off.
 use mathlib.Core.Path.{_≡_, refl, sym, ap, ap₂, _∙_}
-use mathlib.Core.Bool.{Bool, true, false, _&&_, and-eq-true-iff}
+use mathlib.Core.Bool.{Bool, true, false, cond, _&&_, and-eq-true-iff}
 use Prim.Native.Nat.{ℕ, zero, suc, _+_, _-_, _*_, _/_, _%_, _^_, _≤_, _<_}
 use native.Mathlib.Decide.{decLe}
 use native.Mathlib.Nat.{div-add-mod', eq-of-mul-eq-mul-right, le-antisymm, lt-of-not-le, mul-pos, mul-mod-left}
@@ -16,9 +16,10 @@ use lib.Signed.{leZ}
 use borrow.Author.Tests.{leb-true, le-leb, eqb-true, eq-eqb, ne-eqb}
 use Rattle.numbers.specs.Codes.{normalized, decoded, encoded, fieldOf, belowNormal, isEqual}
 use Rattle.numbers.specs.Fraction.{Fraction, Equal, signed, value}
-use Rattle.numbers.specs.Layout.{IsFormat}
+use Rattle.numbers.specs.Layout.{IsFormat, IsCode}
 use Rattle.numbers.specs.Number.{isWorkingExponent, isWorking}
 use Rattle.numbers.specs.Rounding.{round}
+use Rattle.numbers.specs.declared.code.Code.{Code}
 use Rattle.numbers.specs.declared.code.Format.{Format}
 use Rattle.numbers.specs.declared.number.Number.{Number}
 use Rattle.numbers.specs.declared.number.Number.the-variants.{Zero, Finite}
@@ -130,6 +131,15 @@ one-test : (a b : Bool) → (a ≡ true → b ≡ true) → (b ≡ true → a �
 one-test true b h k = sym (h refl)
 one-test false true h k = k refl
 one-test false false h k = refl
+
+-- ---- the exponent of a code: field 0 counts as field 1
+
+pub counted-most : (f : Format) (c : Code) → IsFormat f → IsCode f c → cond (eqb (c .field) 0) 1 (c .field) ≤ 2 * f .bias + 1
+counted-most f c formed fits = go (eqb (c .field) 0)
+  where
+    go : (t : Bool) → cond t 1 (c .field) ≤ 2 * f .bias + 1
+    go true = omega arith
+    go false = omega (arith, formed .fields, fits .field-fits)
 
 -- ---- a number cut to the bits of a code
 

@@ -20,23 +20,21 @@ use Rattle.numbers.specs.declared.code.Format.{Format}
 use Rattle.numbers.specs.declared.code.Reading.the-variants.{Given, AllOnes, Noncanonical}
 use Rattle.numbers.specs.declared.number.Number.{Number}
 use Rattle.numbers.specs.declared.number.Number.the-variants.{Finite}
+use Rattle.numbers.proofs.Laws.Decoded.{counted-most}
 use Rattle.numbers.proofs.Laws.Exponent.{minus-same}
+use Rattle.numbers.proofs.Laws.Parts.{all-ones}
 use Rattle.numbers.proofs.Laws.Powers.{word-power}
 use Rattle.numbers.proofs.code.decode.Statement.{statement}
 use Rattle.numbers.proofs.code.decode.Tie as tie
 
 module _ (f : Format) (c : Code) (x : Number) (formed : IsFormat f) (fits : IsCode f c) where
-  ones : allOnes f ≡ 2 * f .bias + 1
-  unfolding allOnes
-  ones = omega (arith, formed .fields)
-
-  all-ones : c .field ≡ 2 * f .bias + 1 → reading AllOnes ≡ judgedCode f c x
+  at-all-ones : c .field ≡ 2 * f .bias + 1 → reading AllOnes ≡ judgedCode f c x
   unfolding reading judgedCode
-  all-ones h = rw (eq-eqb (c .field) (allOnes f) (h ∙ sym ones))
+  at-all-ones h = rw (eq-eqb (c .field) (allOnes f) (h ∙ sym (all-ones f formed)))
 
   module _ (apart : c .field ≡ 2 * f .bias + 1 → ⊥) (canonical : Bool) (is : canonical ≡ isCanonical f c) where
     no-ones : eqb (c .field) (allOnes f) ≡ false
-    no-ones = ne-eqb (c .field) (allOnes f) (λ (z : c .field ≡ allOnes f). apart (z ∙ ones))
+    no-ones = ne-eqb (c .field) (allOnes f) (λ (z : c .field ≡ allOnes f). apart (z ∙ all-ones f formed))
 
     noncanonical : canonical ≡ false → reading Noncanonical ≡ judgedCode f c x
     unfolding reading judgedCode
@@ -47,12 +45,8 @@ module _ (f : Format) (c : Code) (x : Number) (formed : IsFormat f) (fits : IsCo
     through h = rw (no-ones, sym is ∙ h)
 
   -- the exponent, biased
-  counted-most : (k : ℕ) → k ≡ cond (eqb (c .field) 0) 1 (c .field) → k + (65535 - f .bias) ≤ 98304
-  counted-most k h = go (eqb (c .field) 0) (ap (λ (n : ℕ). n) h)
-    where
-      go : (t : Bool) → k ≡ cond t 1 (c .field) → k + (65535 - f .bias) ≤ 98304
-      go true e = omega (arith, formed .small-bias)
-      go false e = omega (arith, formed .small-bias, formed .fields, fits .field-fits)
+  biased-most : (k : ℕ) → k ≡ cond (eqb (c .field) 0) 1 (c .field) → k + (65535 - f .bias) ≤ 98303
+  biased-most k h = omega (arith, h, counted-most f c formed fits, formed .small-bias)
 
   exponent-is : (k : ℕ) (r : ℤ) → k ≡ cond (eqb (c .field) 0) 1 (c .field) → SFits w32 r → r ≡ minus (k + (65535 - f .bias)) 65535
       → toZ w32 (ofZ w32 r) ≡ minus (cond (eqb (c .field) 0) 1 (c .field)) (f .bias)
@@ -72,22 +66,22 @@ number-is f c formed fits k r h range e = rw (exponent-is f c (decoded f c) form
 given-number : (f : Format) (c : Code) (x : Number) → x ≡ decoded f c → reading (Given (decoded f c)) ≡ judgedCode f c (decoded f c) → reading (Given x) ≡ judgedCode f c (decoded f c)
 given-number f c x is h = rw is h
 
-mul-if1 : tie.Need-mul-if1
-mul-if1 c = search needs
+mul-all-ones : tie.Need-mul-all-ones
+mul-all-ones c = search needs
 
-add-if1 : tie.Need-add-if1
-add-if1 c = search needs
-
-returns : tie.Need-returns
-returns c = let start = c .before .before .before in all-ones _ _ _ (start .pre .0) (start .pre .1) (c .if1 .taken)
+add-all-ones : tie.Need-add-all-ones
+add-all-ones c = search needs
 
 is-canonical-requires : tie.Need-is-canonical-requires
 is-canonical-requires c κs = search needs
 
+returns : tie.Need-returns
+returns c = let start = c .before .before .before .before in at-all-ones _ _ _ (start .pre .0) (start .pre .1) (c .if1 .taken)
+
 returns-2 : tie.Need-returns-2
 returns-2 c =
     let start = c .before .before .before .before .before in
-    noncanonical _ _ _ (start .pre .0) (start .pre .1) (c .before .before .if1 .left) _ (c .before .is-canonical .ensures) (not-true _ (c .if2 .taken))
+    noncanonical _ _ _ (start .pre .0) (start .pre .1) (c .before .if1 .left) _ (c .before .before .before .is-canonical .ensures) (not-true _ (c .if2 .taken))
 
 counted-requires : tie.Need-counted-requires
 counted-requires c κs = search needs
@@ -98,30 +92,30 @@ sub-unbiased c = search needs
 add-unbiased : tie.Need-add-unbiased
 add-unbiased c =
     let start = c .before .before .before .before .before .before .before in
-    record { fits = omega (arith, counted-most _ (start .args .code) (decoded (start .args .format) (start .args .code)) (start .pre .0) (start .pre .1) _ (c .before .counted .ensures)) }
+    record { fits = omega (arith, biased-most _ (start .args .code) (decoded (start .args .format) (start .args .code)) (start .pre .0) (start .pre .1) _ (c .before .counted .ensures)) }
 
 unbiased-requires : tie.Need-unbiased-requires
 unbiased-requires c κs =
     let start = c .before .before .before .before .before .before .before in
-    omega (arith, counted-most _ (start .args .code) (decoded (start .args .format) (start .args .code)) (start .pre .0) (start .pre .1) _ (c .before .counted .ensures))
+    omega (arith, biased-most _ (start .args .code) (decoded (start .args .format) (start .args .code)) (start .pre .0) (start .pre .1) _ (c .before .counted .ensures))
 
-sub-t9 : tie.Need-sub-t9
-sub-t9 c = search needs
+sub-t10 : tie.Need-sub-t10
+sub-t10 c = search needs
 
-cast-t10 : tie.Need-cast-t10
-cast-t10 c = search needs
+cast-t11 : tie.Need-cast-t11
+cast-t11 c = search needs
 
-shl-t11 : tie.Need-shl-t11
-shl-t11 c = search needs
+shl-t12 : tie.Need-shl-t12
+shl-t12 c = search needs
 
 returns-3 : tie.Need-returns-3
 returns-3 c =
     let start = c .before .before .before .before .before .before .before .before .before .before in
     given-number _ _ _
     (sym (number-is _ _ (start .pre .0) (start .pre .1) _ _ (c .before .before .before .before .counted .ensures) (record { sfits = c .before .before .unbiased .ok }) (c .before .before .unbiased .ensures)))
-    (through _ _ _ (start .pre .0) (start .pre .1) (c .before .before .before .before .before .before .before .if1 .left) _ (c .before .before .before .before .before .before .is-canonical .ensures) (not-false _ (c .before .before .before .before .before .if2 .left)))
+    (through _ _ _ (start .pre .0) (start .pre .1) (c .before .before .before .before .before .before .if1 .left) _ (c .before .before .before .before .before .before .before .before .is-canonical .ensures) (not-false _ (c .before .before .before .before .before .if2 .left)))
 
 pub decode-spec : {M : Type 1} → statement M
 decode-spec =
     tie.close
-    (tie.spec mul-if1 add-if1 returns is-canonical-requires returns-2 counted-requires sub-unbiased add-unbiased unbiased-requires sub-t9 cast-t10 shl-t11 returns-3)
+    (tie.spec mul-all-ones add-all-ones is-canonical-requires returns returns-2 counted-requires sub-unbiased add-unbiased unbiased-requires sub-t10 cast-t11 shl-t12 returns-3)

@@ -19,6 +19,7 @@ use Rattle.numbers.specs.declared.code.Format.{Format}
 use Rattle.numbers.specs.declared.code.Reading.{Reading}
 use Rattle.numbers.specs.declared.code.Reading.the-variants.{Given, WrongLength, AllOnes, Noncanonical}
 use Rattle.numbers.specs.declared.number.Number.{Number}
+use Rattle.numbers.proofs.Laws.Decoded.{counted-most}
 use Rattle.numbers.proofs.Laws.Places.{minus-order}
 use Rattle.numbers.proofs.code.Reading.{the-type}
 use Rattle.numbers.proofs.code.number_of.Statement.{statement}
@@ -57,7 +58,7 @@ unfolding reading
 normalized-code f c x y is through e = through y ∙ ap (judgedCode f c) (e ∙ ap normalized is)
 
 -- the exponents of a format leave room below for a shift
-counted-normalizable : (bias k : ℕ) → bias ≤ 32767 → k ≤ 2 * bias + 2 → isBetween (minus 0 65472) (minus 65536 0) (minus k bias) ≡ true
+counted-normalizable : (bias k : ℕ) → bias ≤ 32767 → k ≤ 2 * bias + 1 → isBetween (minus 0 65472) (minus 65536 0) (minus k bias) ≡ true
 unfolding isBetween
 counted-normalizable bias k low high =
     rw (
@@ -65,18 +66,10 @@ counted-normalizable bias k low high =
       minus-order k bias 65536 0 ∙ le-leb (k + 0) (65536 + bias) (omega arith),
     )
 
-counted-most : (k n : ℕ) → k < n → 2 ≤ n → cond (eqb k 0) 1 k ≤ n
-counted-most k n h l = go (eqb k 0)
-  where
-    go : (t : Bool) → cond t 1 k ≤ n
-    go true = omega arith
-    go false = omega arith
-
 decoded-normalizable : (f : Format) (c : Code) (x : Number) → IsFormat f → IsCode f c → x ≡ decoded f c → isNormalizable x ≡ true
 unfolding isNormalizable decoded
 decoded-normalizable f c x formed fits is =
-    rw is (counted-normalizable (f .bias) (cond (eqb (c .field) 0) 1 (c .field)) (formed .small-bias)
-    (counted-most (c .field) (2 * f .bias + 2) (rw (formed .fields) at (fits .field-fits)) (omega arith)))
+    rw is (counted-normalizable (f .bias) (cond (eqb (c .field) 0) 1 (c .field)) (formed .small-bias) (counted-most f c formed fits))
 
 decode-requires : tie.Need-decode-requires
 decode-requires c κs = search needs

@@ -47,30 +47,32 @@ impl Binary64 {
     pub const HIGHEST: i32 = 1_023;
 
     // The number in a code, or why there is none.
-    pub fn read(bytes: &[u8]) -> Reading
-        ensures { λ r. ⌜ reading r ≡ readingOf binary64 (now (bytes .entry)) ⌝ }
+    pub fn read(code: &[u8]) -> Reading
+        ensures { λ r. ⌜ reading r ≡ readingOf binary64 (now (code .entry)) ⌝ }
     {
-        if bytes.len() != Self::LENGTH {
+        if code.len() != Self::LENGTH {
             return Reading::WrongLength;
         }
-        number_of(Self::from_bytes(bytes).code(), Self::format())
+        number_of(Self::from_bytes(code).parts(), Self::format())
     }
 
     // Writes the code that equals x, or leaves the bytes as they were.
     pub fn write(x: Number, bytes: &mut [u8]) -> Writing
         ensures { λ r. ⌜ left r (now (bytes .exit)) ≡ writingOf binary64 x (now (bytes .entry)) ⌝ }
     {
-        if !is_working(x) {
+        let fit = is_working(x);
+        let length = bytes.len();
+        if !fit {
             return Writing::Unfit;
         }
-        if bytes.len() != Self::LENGTH {
+        if length != Self::LENGTH {
             return Writing::WrongLength;
         }
         let found = pack(x, Self::format());
         let Packing::Code(code) = found else {
             return Writing::NoEqualCode;
         };
-        Self::from_code(code).write_bytes(bytes);
+        Self::from_parts(code).write_bytes(bytes);
         Writing::Written
     }
 
@@ -107,7 +109,7 @@ impl Binary64 {
     }
 
     // The code with these parts.
-    fn from_code(code: Code) -> Binary64
+    fn from_parts(code: Code) -> Binary64
         requires { ⌜ IsCode binary64 code ⌝ }
         ensures { λ r. ⌜ r .bits ≡ join binary64 code ⌝ }
     {
@@ -118,7 +120,7 @@ impl Binary64 {
     }
 
     // The parts of the code.
-    fn code(self) -> Code
+    fn parts(self) -> Code
         ensures { λ r. ⌜ r ≡ split binary64 (self .bits) ⌝ }
     {
         let fraction = self.bits % FRACTIONS;

@@ -71,9 +71,10 @@ fn decode(code: Code, format: Format) -> Reading
     requires { ⌜ IsFormat format × IsCode format code ⌝ }
     ensures { λ r. ⌜ reading r ≡ judgedCode format code (decoded format code) ⌝ }
 {
+    let field = code.field;
     let all_ones = 2 * format.bias + 1;
     let canonical = is_canonical(code, format);
-    if code.field == all_ones {
+    if field == all_ones {
         return Reading::AllOnes;
     }
     if !canonical {
@@ -81,7 +82,7 @@ fn decode(code: Code, format: Format) -> Reading
     }
     Reading::Given(Number::Finite {
         negative: code.negative,
-        exponent: unbiased(counted(code.field) + (WORKING_BIAS - format.bias)),
+        exponent: unbiased(counted(field) + (WORKING_BIAS - format.bias)),
         significand: code.significand << (64 - format.precision),
     })
 }
@@ -156,13 +157,15 @@ pub(crate) fn pack(x: Number, format: Format) -> Packing
     }
     let place = place_of(exponent, format);
     let part = cut(significand, place.below + (64 - format.precision));
-    if part.rest {
+    let kept = part.value;
+    let lost = part.rest;
+    if lost {
         return Packing::NoEqualCode;
     }
     Packing::Code(Code {
         negative,
         field: place.field,
-        significand: part.value,
+        significand: kept,
     })
 }
 

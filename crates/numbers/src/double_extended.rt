@@ -40,30 +40,32 @@ impl DoubleExtended {
     pub const HIGHEST: i32 = 16_383;
 
     // The number in a code, or why there is none.
-    pub fn read(bytes: &[u8]) -> Reading
-        ensures { λ r. ⌜ reading r ≡ readingOf doubleExtended (now (bytes .entry)) ⌝ }
+    pub fn read(code: &[u8]) -> Reading
+        ensures { λ r. ⌜ reading r ≡ readingOf doubleExtended (now (code .entry)) ⌝ }
     {
-        if bytes.len() != Self::LENGTH {
+        if code.len() != Self::LENGTH {
             return Reading::WrongLength;
         }
-        number_of(Self::from_bytes(bytes).code(), Self::format())
+        number_of(Self::from_bytes(code).parts(), Self::format())
     }
 
     // Writes the code that equals x, or leaves the bytes as they were.
     pub fn write(x: Number, bytes: &mut [u8]) -> Writing
         ensures { λ r. ⌜ left r (now (bytes .exit)) ≡ writingOf doubleExtended x (now (bytes .entry)) ⌝ }
     {
-        if !is_working(x) {
+        let fit = is_working(x);
+        let length = bytes.len();
+        if !fit {
             return Writing::Unfit;
         }
-        if bytes.len() != Self::LENGTH {
+        if length != Self::LENGTH {
             return Writing::WrongLength;
         }
         let found = pack(x, Self::format());
         let Packing::Code(code) = found else {
             return Writing::NoEqualCode;
         };
-        Self::from_code(code).write_bytes(bytes);
+        Self::from_parts(code).write_bytes(bytes);
         Writing::Written
     }
 
@@ -104,7 +106,7 @@ impl DoubleExtended {
     }
 
     // The code with these parts.
-    fn from_code(code: Code) -> DoubleExtended
+    fn from_parts(code: Code) -> DoubleExtended
         requires { ⌜ IsCode doubleExtended code ⌝ }
         ensures { λ r. ⌜ wide (r .upper) (r .significand) ≡ join doubleExtended code ⌝ }
     {
@@ -116,7 +118,7 @@ impl DoubleExtended {
     }
 
     // The parts of the code.
-    fn code(self) -> Code
+    fn parts(self) -> Code
         ensures { λ r. ⌜ r ≡ split doubleExtended (wide (self .upper) (self .significand)) ⌝ }
     {
         let upper = self.upper as u64;

@@ -76,12 +76,12 @@ is-canonical-requires : tie.Need-is-canonical-requires
 is-canonical-requires c κs = search needs
 
 returns : tie.Need-returns
-returns c = let start = c .before .before .before .before in at-all-ones _ _ _ (start .pre .0) (start .pre .1) (c .if1 .taken)
+returns c = let start = c .before .before .before in at-all-ones _ _ _ (start .pre .0) (start .pre .1) (c .if1 .taken)
 
 returns-2 : tie.Need-returns-2
 returns-2 c =
-    let start = c .before .before .before .before .before in
-    noncanonical _ _ _ (start .pre .0) (start .pre .1) (c .before .if1 .left) _ (c .before .before .before .is-canonical .ensures) (not-true _ (c .if2 .taken))
+    let start = c .before .before .before .before in
+    noncanonical _ _ _ (start .pre .0) (start .pre .1) (c .before .if1 .left) _ (c .before .before .is-canonical .ensures) (not-true _ (c .if2 .taken))
 
 counted-requires : tie.Need-counted-requires
 counted-requires c κs = search needs
@@ -91,31 +91,31 @@ sub-unbiased c = search needs
 
 add-unbiased : tie.Need-add-unbiased
 add-unbiased c =
-    let start = c .before .before .before .before .before .before .before in
+    let start = c .before .before .before .before .before .before in
     record { fits = omega (arith, biased-most _ (start .args .code) (decoded (start .args .format) (start .args .code)) (start .pre .0) (start .pre .1) _ (c .before .counted .ensures)) }
 
 unbiased-requires : tie.Need-unbiased-requires
 unbiased-requires c κs =
-    let start = c .before .before .before .before .before .before .before in
+    let start = c .before .before .before .before .before .before in
     omega (arith, biased-most _ (start .args .code) (decoded (start .args .format) (start .args .code)) (start .pre .0) (start .pre .1) _ (c .before .counted .ensures))
 
-sub-t10 : tie.Need-sub-t10
-sub-t10 c = search needs
+sub-t11 : tie.Need-sub-t11
+sub-t11 c = search needs
 
-cast-t11 : tie.Need-cast-t11
-cast-t11 c = search needs
+cast-t12 : tie.Need-cast-t12
+cast-t12 c = search needs
 
-shl-t12 : tie.Need-shl-t12
-shl-t12 c = search needs
+shl-t13 : tie.Need-shl-t13
+shl-t13 c = search needs
 
 returns-3 : tie.Need-returns-3
 returns-3 c =
-    let start = c .before .before .before .before .before .before .before .before .before .before in
+    let start = c .before .before .before .before .before .before .before .before .before in
     given-number _ _ _
     (sym (number-is _ _ (start .pre .0) (start .pre .1) _ _ (c .before .before .before .before .counted .ensures) (record { sfits = c .before .before .unbiased .ok }) (c .before .before .unbiased .ensures)))
-    (through _ _ _ (start .pre .0) (start .pre .1) (c .before .before .before .before .before .before .if1 .left) _ (c .before .before .before .before .before .before .before .before .is-canonical .ensures) (not-false _ (c .before .before .before .before .before .if2 .left)))
+    (through _ _ _ (start .pre .0) (start .pre .1) (c .before .before .before .before .before .before .if1 .left) _ (c .before .before .before .before .before .before .before .is-canonical .ensures) (not-false _ (c .before .before .before .before .before .if2 .left)))
 
 pub decode-spec : {M : Type 1} → statement M
 decode-spec =
     tie.close
-    (tie.spec mul-all-ones add-all-ones is-canonical-requires returns returns-2 counted-requires sub-unbiased add-unbiased unbiased-requires sub-t10 cast-t11 shl-t12 returns-3)
+    (tie.spec mul-all-ones add-all-ones is-canonical-requires returns returns-2 counted-requires sub-unbiased add-unbiased unbiased-requires sub-t11 cast-t12 shl-t13 returns-3)

@@ -33,8 +33,8 @@ returns-3 : tie.Need-returns-3
 unfolding binary64
 returns-3 c = write-no-code binary64 _ _ (c .before .before .before .before .before .before .is-working .ensures) (not-false _ (c .before .before .before .before .before .if1 .left)) _ _ (c .before .before .before .format .ensures) (c .before .before .pack .ensures) _ (c .before .before .before .before .if2 .left) (c .enum-told .given .1)
 
-from-code-requires : tie.Need-from-code-requires
-from-code-requires c κs = write-code-fits binary64 _ _ (c .before .before .before .before .before .before .before .is-working .ensures) (not-false _ (c .before .before .before .before .before .before .if1 .left)) _ _ (c .before .before .before .before .format .ensures) (c .before .before .before .pack .ensures) _ binary64-format (c .before .found .given .1)
+from-parts-requires : tie.Need-from-parts-requires
+from-parts-requires c κs = write-code-fits binary64 _ _ (c .before .before .before .before .before .before .before .is-working .ensures) (not-false _ (c .before .before .before .before .before .before .if1 .left)) _ _ (c .before .before .before .before .format .ensures) (c .before .before .before .pack .ensures) _ binary64-format (c .before .found .given .1)
 
 write-bytes-requires : tie.Need-write-bytes-requires
 write-bytes-requires c κs = search needs
@@ -46,9 +46,9 @@ returns-4 : tie.Need-returns-4
 unfolding binary64
 returns-4 c =
     write-code binary64 _ _ (c .before .before .before .before .before .before .before .before .before .before .before .before .is-working .ensures) (not-false _ (c .before .before .before .before .before .before .before .before .before .before .before .if1 .left))
-    _ _ (c .before .before .before .before .before .before .before .before .before .format .ensures) (c .before .before .before .before .before .before .before .before .pack .ensures) _ _ _ _ (c .before .before .before .before .before .before .before .before .before .before .if2 .left) (c .before .before .before .before .before .before .found .given .1) (c .before .before .before .before .from-code .ensures) (c .before .before .write-bytes .ensures)
+    _ _ (c .before .before .before .before .before .before .before .before .before .format .ensures) (c .before .before .before .before .before .before .before .before .pack .ensures) _ _ _ _ (c .before .before .before .before .before .before .before .before .before .before .if2 .left) (c .before .before .before .before .before .before .found .given .1) (c .before .before .before .before .from-parts .ensures) (c .before .before .write-bytes .ensures)
 
 pub write-spec : {M : Type 1} → statement M
 write-spec =
     tie.close
-    (tie.spec is-working-requires returns returns-2 format-requires pack-requires enum-known-found enum-told returns-3 from-code-requires write-bytes-requires same-length returns-4)
+    (tie.spec is-working-requires returns returns-2 format-requires pack-requires enum-known-found enum-told returns-3 from-parts-requires write-bytes-requires same-length returns-4)

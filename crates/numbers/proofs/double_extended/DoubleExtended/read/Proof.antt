@@ -13,18 +13,18 @@ returns c = read-wrong-length doubleExtended _ (c .if1 .taken)
 from-bytes-requires : tie.Need-from-bytes-requires
 from-bytes-requires c κs = search needs
 
-code-requires : tie.Need-code-requires
-code-requires c κs = search needs
+parts-requires : tie.Need-parts-requires
+parts-requires c κs = search needs
 
 format-requires : tie.Need-format-requires
 format-requires c κs = search needs
 
 number-of-requires : tie.Need-number-of-requires
-number-of-requires c κs = read-requires doubleExtended _ _ _ double-extended-format (c .format .ensures) (c .before .code .ensures)
+number-of-requires c κs = read-requires doubleExtended _ _ _ double-extended-format (c .format .ensures) (c .before .parts .ensures)
 
 returns-2 : tie.Need-returns-2
 unfolding doubleExtended
-returns-2 c = read-number doubleExtended _ _ _ _ _ (c .before .before .before .before .if1 .left) (c .before .format .ensures) (c .before .before .before .from-bytes .ensures) (c .before .before .code .ensures) (c .number-of .ensures)
+returns-2 c = read-number doubleExtended _ _ _ _ _ (c .before .before .before .before .if1 .left) (c .before .format .ensures) (c .before .before .before .from-bytes .ensures) (c .before .before .parts .ensures) (c .number-of .ensures)
 
 pub read-spec : {M : Type 1} → statement M
-read-spec = tie.close (tie.spec returns from-bytes-requires code-requires format-requires number-of-requires returns-2)
+read-spec = tie.close (tie.spec returns from-bytes-requires parts-requires format-requires number-of-requires returns-2)

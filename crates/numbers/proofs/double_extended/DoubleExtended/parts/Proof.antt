@@ -1,4 +1,4 @@
--- `numbers::double_extended::DoubleExtended::code` meets its contract: the significand is a word, and the field and the sign are the parts of `upper`.
+-- `numbers::double_extended::DoubleExtended::parts` meets its contract: the significand is a word, and the field and the sign are the parts of `upper`.
 -- Assumes nothing.
 use borrow.Author.Needs.{needs}
 use mathlib.Core.Path.{_≡_, sym}
@@ -8,8 +8,8 @@ use lib.Dec.{ltb}
 use lib.Pow.{high, low}
 use Rattle.numbers.specs.Codes.{doubleExtended, exponentBits, leadingOne, split}
 use Rattle.numbers.specs.Words.{wide}
-use Rattle.numbers.proofs.double_extended.DoubleExtended.code.Statement.{statement}
-use Rattle.numbers.proofs.double_extended.DoubleExtended.code.Tie as tie
+use Rattle.numbers.proofs.double_extended.DoubleExtended.parts.Statement.{statement}
+use Rattle.numbers.proofs.double_extended.DoubleExtended.parts.Tie as tie
 
 cast-upper : tie.Need-cast-upper
 cast-upper c = search needs
@@ -25,5 +25,5 @@ parts h l b = rw (high h 64 b, low h 64 b, add-zero)
 returns : tie.Need-returns
 returns c = sym (parts _ _ (c .struct-known .given .1 .0 .fits))
 
-pub code-spec : {M : Type 1} → statement M
-code-spec = tie.close (tie.spec cast-upper cast-t6 returns)
+pub parts-spec : {M : Type 1} → statement M
+parts-spec = tie.close (tie.spec cast-upper cast-t6 returns)

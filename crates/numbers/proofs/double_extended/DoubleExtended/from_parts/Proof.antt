@@ -1,4 +1,4 @@
--- `numbers::double_extended::DoubleExtended::from_code` meets its contract. The sign is at most 1 and the field below 2^15, so no product or sum overflows.
+-- `numbers::double_extended::DoubleExtended::from_parts` meets its contract. The sign is at most 1 and the field below 2^15, so no product or sum overflows.
 -- Assumes nothing.
 use borrow.Author.Needs.{needs}
 use Prim.Native.Nat.{_+_, _*_, _<_}
@@ -7,8 +7,8 @@ use native.Mathlib.Omega.{arith}
 use Rattle.numbers.specs.Codes.{doubleExtended, exponentBits, join}
 use Rattle.numbers.specs.Words.{wide}
 use Rattle.numbers.proofs.Laws.Bytes.{upper-below}
-use Rattle.numbers.proofs.double_extended.DoubleExtended.from_code.Statement.{statement}
-use Rattle.numbers.proofs.double_extended.DoubleExtended.from_code.Tie as tie
+use Rattle.numbers.proofs.double_extended.DoubleExtended.from_parts.Statement.{statement}
+use Rattle.numbers.proofs.double_extended.DoubleExtended.from_parts.Tie as tie
 
 sign-of-requires : tie.Need-sign-of-requires
 sign-of-requires c κs = search needs
@@ -34,6 +34,6 @@ returns : tie.Need-returns
 unfolding join exponentBits doubleExtended wide
 returns c = rw (c .before .sign-of .ensures, mod-eq-of-lt (c .before .before .pre .significand-fits))
 
-pub from-code-spec : {M : Type 1} → statement M
-from-code-spec =
+pub from-parts-spec : {M : Type 1} → statement M
+from-parts-spec =
     tie.close (tie.spec sign-of-requires mul-upper cast-upper add-upper cast-t6 returns)

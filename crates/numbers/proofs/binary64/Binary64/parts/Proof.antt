@@ -1,4 +1,4 @@
--- `numbers::binary64::Binary64::code` meets its contract: quotients and remainders by powers of two take the bits apart.
+-- `numbers::binary64::Binary64::parts` meets its contract: quotients and remainders by powers of two take the bits apart.
 -- Assumes nothing.
 use borrow.Author.Needs.{needs}
 use mathlib.Core.Path.{_≡_}
@@ -8,8 +8,8 @@ use native.Mathlib.Nat.{le-refl}
 use native.Mathlib.Omega.{arith}
 use lib.Dec.{ltb}
 use Rattle.numbers.specs.Codes.{binary64, exponentBits, leadingOne, split}
-use Rattle.numbers.proofs.binary64.Binary64.code.Statement.{statement}
-use Rattle.numbers.proofs.binary64.Binary64.code.Tie as tie
+use Rattle.numbers.proofs.binary64.Binary64.parts.Statement.{statement}
+use Rattle.numbers.proofs.binary64.Binary64.parts.Tie as tie
 
 -- the leading one is at most 2^52
 leading-small : (r field : ℕ) → r ≡ leadingOne binary64 field → r ≤ 2 ^ 52
@@ -33,5 +33,5 @@ returns : tie.Need-returns
 unfolding split exponentBits leadingOne binary64
 returns c = rw (c .leading-one .ensures)
 
-pub code-spec : {M : Type 1} → statement M
-code-spec = tie.close (tie.spec cast-t7 leading-one-requires add-t9 returns)
+pub parts-spec : {M : Type 1} → statement M
+parts-spec = tie.close (tie.spec cast-t7 leading-one-requires add-t9 returns)

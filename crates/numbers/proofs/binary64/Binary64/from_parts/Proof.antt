@@ -1,12 +1,12 @@
--- `numbers::binary64::Binary64::from_code` meets its contract. The sign is at most 1 and the field below 2^11, so no product or sum overflows.
+-- `numbers::binary64::Binary64::from_parts` meets its contract. The sign is at most 1 and the field below 2^11, so no product or sum overflows.
 -- Assumes nothing.
 use borrow.Author.Needs.{needs}
 use Prim.Native.Nat.{_+_, _*_, _<_}
 use native.Mathlib.Omega.{arith}
 use Rattle.numbers.specs.Codes.{binary64, exponentBits, join}
 use Rattle.numbers.proofs.Laws.Bytes.{upper-below}
-use Rattle.numbers.proofs.binary64.Binary64.from_code.Statement.{statement}
-use Rattle.numbers.proofs.binary64.Binary64.from_code.Tie as tie
+use Rattle.numbers.proofs.binary64.Binary64.from_parts.Statement.{statement}
+use Rattle.numbers.proofs.binary64.Binary64.from_parts.Tie as tie
 
 sign-of-requires : tie.Need-sign-of-requires
 sign-of-requires c κs = search needs
@@ -35,6 +35,6 @@ returns : tie.Need-returns
 unfolding join exponentBits binary64
 returns c = rw (c .before .before .sign-of .ensures)
 
-pub from-code-spec : {M : Type 1} → statement M
-from-code-spec =
+pub from-parts-spec : {M : Type 1} → statement M
+from-parts-spec =
     tie.close (tie.spec sign-of-requires mul-upper cast-upper add-upper mul-t3 add-t4 returns)

@@ -7,10 +7,10 @@ use Prim.Native.Nat.{ℕ}
 use lib.Ieee.{size}
 use lib.IntN.{ℤ, pos, negsuc}
 use Rattle.numbers.specs.Number.{isSignificand, isBetween, isFit, isWorkingExponent, isWorking}
-use Rattle.numbers.specs.Fraction.{signed, value, sum, product}
+use Rattle.numbers.specs.Fraction.{signed, value, isEqual, sum, product}
 use Rattle.numbers.specs.Rounding.{settled, exponentOf, scaledNumerator, scaledDenominator, goesUp, wholeOf, placed, roundedAt, isNegative, round, hasAtMostBits, taskOf, isPrecision}
 use Rattle.numbers.specs.Answer.{Outcome, given, refused, checked, claimed, rounded, unlessRefused, operationOf, sumOf, productOf, judged}
-use Rattle.numbers.specs.Codes.{doubleExtended, binary64, exponentBits, allOnes, littleEndian, bytesOf, leadingOne, split, join, decoded, normalized, isCanonical, judgedCode, readingOf, fieldOf, belowNormal, encoded, isEqual, equalCode, unwritten, packed, writingOf}
+use Rattle.numbers.specs.Codes.{doubleExtended, binary64, exponentBits, allOnes, littleEndian, bytesOf, leadingOne, split, join, decoded, normalized, isCanonical, judgedCode, readingOf, fieldOf, belowNormal, encoded, equalCode, unwritten, packed, writingOf}
 use Rattle.numbers.specs.declared.code.Format.{Format}
 use Rattle.numbers.specs.declared.number.Number.{Number}
 use Rattle.numbers.specs.declared.number.Number.the-variants.{Zero, Finite}

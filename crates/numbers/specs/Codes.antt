@@ -1,16 +1,16 @@
 -- Document 01, "Codes": the two formats, and what reading and writing a code answer. One definition of each serves both formats.
 -- A format's constants are the struct `Format` of src/code.rt, and a code taken apart is the struct `Code`.
-use mathlib.Core.Bool.{Bool, true, false, not, _&&_, Bool·beq, cond}
+use mathlib.Core.Bool.{Bool, false, not, _&&_, Bool·beq, cond}
 use mathlib.Core.List.{List, [], _∷_}
 use mathlib.Core.Option.{Option, none, some}
 use Prim.Native.Nat.{ℕ, zero, suc, _+_, _-_, _*_, _/_, _%_, _^_}
 use lib.Dec.{leb, ltb, eqb}
 use lib.Ieee.{minus}
-use lib.IntN.{ℤ, pos, negℤ, natAbs, _+ℤ_, _-ℤ_, _*ℤ_}
+use lib.IntN.{ℤ, pos, negℤ, natAbs, _+ℤ_, _-ℤ_}
 use lib.ListN.{length}
 use lib.Signed.{leZ}
 use Rattle.numbers.specs.Answer.{Outcome, given, refused}
-use Rattle.numbers.specs.Fraction.{Fraction, value}
+use Rattle.numbers.specs.Fraction.{value, isEqual}
 use Rattle.numbers.specs.Number.{isWorking}
 use Rattle.numbers.specs.Rounding.{round}
 use Rattle.numbers.specs.declared.code.Code.{Code}
@@ -100,13 +100,6 @@ belowNormal f e = cond (leZ (f .lowest) e) 0 (natAbs (f .lowest -ℤ e))
 -- the code that has as many of the upper bits of S as the format has room for
 unfoldable pub encoded : Format → Bool → ℤ → ℕ → Code
 encoded f negative e S = record { negative = negative; field = fieldOf f e; significand = S / 2 ^ (belowNormal f e + (64 - f .precision)) }
-
--- do two fractions have the same value, by cross products?
-unfoldable pub isEqual : Fraction → Fraction → Bool
-isEqual x y =
-    let a = x .numerator *ℤ pos (y .denominator) in
-    let b = y .numerator *ℤ pos (x .denominator) in
-    leZ a b && leZ b a
 
 -- the code that equals a working number, if there is one
 unfoldable pub equalCode : Format → Number → Option Code

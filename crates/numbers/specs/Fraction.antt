@@ -1,10 +1,10 @@
 -- Document 01, "Numbers": exact fractions, and the value of a number.
 use mathlib.Core.Path.{_≡_}
-use mathlib.Core.Bool.{Bool, true, false}
+use mathlib.Core.Bool.{Bool, true, false, _&&_}
 use Prim.Native.Nat.{ℕ, suc, _*_, _^_, _<_}
 use lib.Ieee.{up, down}
 use lib.IntN.{ℤ, pos, negsuc, negℤ, natAbs, _+ℤ_, _-ℤ_, _*ℤ_}
-use lib.Signed.{_≤ℤ_, _<ℤ_}
+use lib.Signed.{leZ, _≤ℤ_, _<ℤ_}
 use Rattle.numbers.specs.declared.number.Number.{Number}
 use Rattle.numbers.specs.declared.number.Number.the-variants.{Zero, Finite}
 
@@ -26,6 +26,13 @@ AtMost x y = (x .numerator *ℤ pos (y .denominator)) ≤ℤ (y .numerator *ℤ 
 
 unfoldable pub Below : Fraction → Fraction → Type 0
 Below x y = (x .numerator *ℤ pos (y .denominator)) <ℤ (y .numerator *ℤ pos (x .denominator))
+
+-- x = y as a test
+unfoldable pub isEqual : Fraction → Fraction → Bool
+isEqual x y =
+    let a = x .numerator *ℤ pos (y .denominator) in
+    let b = y .numerator *ℤ pos (x .denominator) in
+    leZ a b && leZ b a
 
 -- a whole number by its sign and its magnitude: the sign of 0 is not kept
 unfoldable pub signed : Bool → ℕ → ℤ

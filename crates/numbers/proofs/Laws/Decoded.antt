@@ -1,12 +1,12 @@
 -- A number normalized: the fit number of the same value, if there is one. And a number cut to a code's bits: it equals the code where no set bit
 -- was cut off.
-use mathlib.Core.Path.{_≡_, refl, sym, ap, ap₂, _∙_}
-use mathlib.Core.Bool.{Bool, true, false, cond, _&&_, and-eq-true-iff}
-use Prim.Native.Nat.{ℕ, zero, suc, _+_, _-_, _*_, _/_, _%_, _^_, _≤_, _<_}
+use mathlib.Core.Path.{_≡_, refl, sym, ap, _∙_}
+use mathlib.Core.Bool.{Bool, true, false, cond, and-eq-true-iff}
+use Prim.Native.Nat.{ℕ, _+_, _-_, _*_, _/_, _%_, _^_, _≤_, _<_}
 use native.Mathlib.Decide.{decLe}
-use native.Mathlib.Nat.{div-add-mod', eq-of-mul-eq-mul-right, le-antisymm, lt-of-not-le, mul-pos, mul-mod-left}
+use native.Mathlib.Nat.{div-add-mod', eq-of-mul-eq-mul-right, le-antisymm, lt-of-not-le, mul-pos}
 use native.Mathlib.Omega.{arith}
-use lib.Dec.{leb, eqb, lit≤}
+use lib.Dec.{eqb, lit≤}
 use lib.Ieee.{minus, up, down}
 use lib.Ieee.Digits.{minus-val}
 use lib.Ieee.Fits.{down-pos}
@@ -14,8 +14,8 @@ use lib.IntN.{ℤ, pos, negsuc, natAbs, _*ℤ_}
 use lib.Pow.{pow-add, pow-pos}
 use lib.Signed.{leZ}
 use borrow.Author.Tests.{leb-true, le-leb, eqb-true, eq-eqb, ne-eqb}
-use Rattle.numbers.specs.Codes.{normalized, decoded, encoded, fieldOf, belowNormal, isEqual}
-use Rattle.numbers.specs.Fraction.{Fraction, Equal, signed, value}
+use Rattle.numbers.specs.Codes.{normalized, decoded, encoded, belowNormal}
+use Rattle.numbers.specs.Fraction.{Fraction, Equal, signed, value, isEqual}
 use Rattle.numbers.specs.Layout.{IsFormat, IsCode}
 use Rattle.numbers.specs.Number.{isWorkingExponent, isWorking}
 use Rattle.numbers.specs.Rounding.{round}
@@ -30,7 +30,7 @@ use Rattle.numbers.proofs.Laws.Exponent.{minus-same}
 use Rattle.numbers.proofs.Laws.Operands.{working-parts}
 use Rattle.numbers.proofs.Laws.Places.{place-normal, place-below}
 use Rattle.numbers.proofs.Laws.Rounded.{value-fraction}
-use Rattle.numbers.proofs.Laws.Signs.{abs-signed, signed-times, signed-zero}
+use Rattle.numbers.proofs.Laws.Signs.{abs-signed, signed-times}
 use Rattle.numbers.proofs.Laws.Value.{value-alone, equal-magnitudes}
 
 -- ---- values of two exponents

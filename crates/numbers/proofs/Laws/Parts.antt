@@ -13,8 +13,8 @@ use lib.Ieee.{minus}
 use lib.IntN.{ℤ, pos}
 use lib.Pow.{pow-add, pow-pos, pow-mono, le-ones}
 use lib.Signed.{leZ}
-use Rattle.numbers.specs.Codes.{doubleExtended, binary64, exponentBits, allOnes, split, join, decoded, isCanonical, belowNormal, encoded, isEqual, equalCode}
-use Rattle.numbers.specs.Fraction.{Equal, signed, value}
+use Rattle.numbers.specs.Codes.{doubleExtended, binary64, exponentBits, allOnes, split, join, decoded, isCanonical, belowNormal, encoded, equalCode}
+use Rattle.numbers.specs.Fraction.{Equal, signed, value, isEqual}
 use Rattle.numbers.specs.Layout.{IsFormat, IsCode}
 use Rattle.numbers.specs.Number.{isWorking}
 use Rattle.numbers.specs.declared.code.Code.{Code}

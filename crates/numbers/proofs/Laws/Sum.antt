@@ -2,7 +2,7 @@
 -- in a cell with a rest is rounded as the odd number of the cell is.
 use mathlib.Core.Path.{_≡_, refl, sym, ap, _∙_}
 use mathlib.Core.Bool.{Bool, true, false, cond}
-use Prim.Native.Nat.{ℕ, zero, suc, _+_, _-_, _*_, _/_, _^_, _≤_, _<_}
+use Prim.Native.Nat.{ℕ, suc, _+_, _-_, _*_, _/_, _^_, _≤_, _<_}
 use native.Mathlib.Nat.{mul-assoc, mul-one, lt-of-le-of-lt, mul-le-mul-right, mul-lt-mul-of-pos-right, le-div-iff-mul-le, mul-pos, pow-succ'}
 use native.Mathlib.Omega.{arith}
 use lib.Dec.{lit<}

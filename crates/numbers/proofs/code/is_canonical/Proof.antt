@@ -1,6 +1,6 @@
 -- `numbers::code::is_canonical` meets its contract: the top bit, as the machine makes it, is 2^(precision − 1).
-use mathlib.Core.Path.{_≡_, sym, ap, _∙_}
-use mathlib.Core.Bool.{Bool, true, false, not, _&&_, Bool·beq, and-false, and-true}
+use mathlib.Core.Path.{_≡_, ap, _∙_}
+use mathlib.Core.Bool.{true, false, not, _&&_, Bool·beq, and-false, and-true}
 use Prim.Native.Nat.{ℕ, _-_, _*_, _%_, _^_, _≤_, _<_}
 use native.Mathlib.Nat.{lt-of-le-of-lt, mod-eq-of-lt, one-mul}
 use native.Mathlib.Omega.{arith}

@@ -1,6 +1,6 @@
 -- `numbers::code::pack` meets its contract: the code has the number's value where no bit of the significand is cut off.
 use mathlib.Core.Path.{_≡_, refl, sym, ap, ap₂, _∙_}
-use mathlib.Core.Bool.{Bool, true, false, not, _&&_, cond, and-true}
+use mathlib.Core.Bool.{Bool, true, false, not}
 use Prim.Native.Nat.{ℕ, _+_, _-_, _/_, _%_, _^_, _≤_, _<_}
 use native.Mathlib.Decide.{decLe}
 use native.Mathlib.Nat.{lt-of-not-le}
@@ -14,8 +14,8 @@ use mir.Syntax.{w32}
 use mir.Val.{SFits, toZ, ofZ}
 use borrow.Author.Needs.{needs}
 use borrow.Author.Tests.{ltb-true, ltb-false, le-leb, lt-leb, le-ltb, lt-ltb, eq-eqb, ne-eqb}
-use Rattle.numbers.specs.Codes.{fieldOf, belowNormal, encoded, isEqual, decoded, equalCode}
-use Rattle.numbers.specs.Fraction.{value}
+use Rattle.numbers.specs.Codes.{fieldOf, belowNormal, encoded, decoded, equalCode}
+use Rattle.numbers.specs.Fraction.{value, isEqual}
 use Rattle.numbers.specs.Layout.{IsFormat, packing}
 use Rattle.numbers.specs.Number.{isWorkingExponent, isWorking}
 use Rattle.numbers.specs.declared.code.Format.{Format}

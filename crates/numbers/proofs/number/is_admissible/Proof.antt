@@ -1,16 +1,12 @@
+-- `numbers::number::is_admissible` meets its contract: it is the fit test between the two ends.
 use borrow.Author.Needs.{needs}
 use Rattle.numbers.specs.Number.{isAdmissibleExponent, isAdmissible}
 use Rattle.numbers.proofs.number.is_admissible.Statement.{statement}
 use Rattle.numbers.proofs.number.is_admissible.Tie as tie
-use Rattle.numbers.proofs.number.is_admissible.Reads as reads
-use Rattle.numbers.proofs.number.is_admissible.Lts as lts
-use Rattle.numbers.proofs.number.is_fit.Reads as is-fit-reads
 
--- src/number.rt:39:5
 is-fit-requires : tie.Need-is-fit-requires
 is-fit-requires c κs = search needs
 
--- src/number.rt:36:1
 returns : tie.Need-returns
 unfolding isAdmissible isAdmissibleExponent
 returns c = c .is-fit .ensures

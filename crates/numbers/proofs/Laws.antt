@@ -36,3 +36,5 @@ pub mod Leading
 pub mod Parts
 pub mod Entries
 pub mod Codes
+-- The binary64 code is that of IEEE 754
+pub mod Ieee

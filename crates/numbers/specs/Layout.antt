@@ -4,12 +4,12 @@ use mathlib.Core.Bool.{Bool, true}
 use mathlib.Core.List.{List}
 use mathlib.Core.Option.{Option, none, some}
 use Prim.Native.Nat.{ℕ, _+_, _*_, _^_, _≤_, _<_}
-use lib.Ieee.{minus}
-use lib.IntN.{pos, negℤ}
+use lib.Ieee.{up, down, minus}
+use lib.IntN.{ℤ, pos, negℤ}
 use lib.ListN.{getD}
 use Rattle.numbers.specs.Answer.{given}
 use Rattle.numbers.specs.Codes.{exponentBits, readingOf}
-use Rattle.numbers.specs.Fraction.{Equal, value}
+use Rattle.numbers.specs.Fraction.{Fraction, Equal, signed, value}
 use Rattle.numbers.specs.Number.{isBetween}
 use Rattle.numbers.specs.declared.code.Code.{Code}
 use Rattle.numbers.specs.declared.code.Format.{Format}
@@ -44,6 +44,10 @@ IsBytes bytes = (i : ℕ) → getD bytes i 0 < 256
 -- some code of the format stands for a number of the same value
 unfoldable pub HasEqualCode : Format → Number → Type 0
 HasEqualCode f x = (bytes : List ℕ) × IsBytes bytes × (y : Number) × (readingOf f bytes ≡ given y) × Equal (value y) (value x)
+
+-- m × 2^e with the sign s: the value of `fin s m e` in the toolchain's account of IEEE 754 (lib.Ieee)
+unfoldable pub ieeeFraction : Bool → ℕ → ℤ → Fraction
+ieeeFraction s m e = record { numerator = signed s (m * up e); denominator = down e }
 
 -- at least 63 above the lowest working exponent, so that a shift of the significand leaves a working one
 unfoldable pub isNormalizable : Number → Bool

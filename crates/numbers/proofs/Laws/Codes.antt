@@ -122,13 +122,13 @@ encoded-decoded f c formed placed canonical = go (c .negative) (c .field) (c .si
 -- ---- reading
 
 -- the parts of a reading that gives x
-record IsReading (f : Format) (bytes : List ℕ) (x : Number) : Type 0 where
+pub record IsReading (f : Format) (bytes : List ℕ) (x : Number) : Type 0 where
   pub long : length bytes ≡ f .length
   pub placed : IsPlaced f (split f (littleEndian bytes))
   pub canonical : isCanonical f (split f (littleEndian bytes)) ≡ true
   pub number : normalized (decoded f (split f (littleEndian bytes))) ≡ x
 
-given-parts : (f : Format) (bytes : List ℕ) (x : Number) → IsFormat f → readingOf f bytes ≡ given x → IsReading f bytes x
+pub given-parts : (f : Format) (bytes : List ℕ) (x : Number) → IsFormat f → readingOf f bytes ≡ given x → IsReading f bytes x
 unfolding readingOf judgedCode
 given-parts f bytes x formed h = go (eqb (length bytes) (f .length)) (eqb (c .field) (allOnes f)) (isCanonical f c) refl refl refl h
   where

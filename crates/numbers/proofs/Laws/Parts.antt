@@ -126,7 +126,7 @@ canonical-parts f c h =
     let both = and-eq-true-iff (Bool·beq top (ltb 0 (c .field))) (not (c .negative && eqb (c .significand) 0)) .0 h in
     (same-bit top (ltb 0 (c .field)) (both .0), both .1)
 
-parts-canonical : (f : Format) (c : Code) → leb (2 ^ (f .precision - 1)) (c .significand) ≡ ltb 0 (c .field) → not (c .negative && eqb (c .significand) 0) ≡ true → isCanonical f c ≡ true
+pub parts-canonical : (f : Format) (c : Code) → leb (2 ^ (f .precision - 1)) (c .significand) ≡ ltb 0 (c .field) → not (c .negative && eqb (c .significand) 0) ≡ true → isCanonical f c ≡ true
 unfolding isCanonical
 parts-canonical f c h k = rw (bit-same (leb (2 ^ (f .precision - 1)) (c .significand)) (ltb 0 (c .field)) h, k)
 

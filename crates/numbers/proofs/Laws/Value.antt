@@ -17,7 +17,7 @@ use Rattle.numbers.specs.declared.task.Mode.{Mode}
 use Rattle.numbers.specs.declared.task.Task.{Task}
 use Rattle.numbers.specs.declared.task.Task.the-variants.{Round, Exact}
 use Rattle.numbers.proofs.Laws.Cell.{cell-ratio, same-cell, one-outcome}
-use Rattle.numbers.proofs.Laws.Signs.{abs-signed, negative-signed}
+use Rattle.numbers.proofs.Laws.Signs.{abs-signed, negative-signed, signed-abs, signed-times}
 use Rattle.numbers.proofs.Laws.Whole.{whole-cell, fraction-cell}
 use Rattle.numbers.proofs.Laws.Powers.{below-power}
 
@@ -101,3 +101,15 @@ value-alone n x y n0 x0 y0 e = go (natAbs (x .numerator)) refl
 
 pub same-outcome : (task : Task) (x y : Fraction) → IsFraction x → IsFraction y → 1 ≤ precisionOf task → Equal x y → rounded task x ≡ rounded task y
 same-outcome task x y x0 y0 n0 e = one-outcome task x y (value-alone (precisionOf task) x y n0 x0 y0 e)
+
+-- equal fractions, one after the other
+pub equal-through : (x y z : Fraction) → IsFraction x → IsFraction y → IsFraction z → Equal x y → Equal y z → Equal x z
+unfolding Equal IsFraction
+equal-through x y z x0 y0 z0 e f =
+    rw (← signed-abs (x .numerator), ← signed-abs (z .numerator), equal-signs x y x0 y0 e ∙ equal-signs y z y0 z0 f)
+    (simp signed-times
+    (ap (signed (isNegative (z .numerator)))
+    (through (natAbs (x .numerator)) (natAbs (y .numerator)) (natAbs (z .numerator)) (x .denominator) (y .denominator) (z .denominator) y0 (equal-magnitudes x y e) (equal-magnitudes y z f))))
+  where
+    through : (a b c k l m : ℕ) → 0 < l → a * l ≡ b * k → b * m ≡ c * l → a * m ≡ c * k
+    through a b c k l m l0 p q = eq-of-mul-eq-mul-right l l0 (a * m) (c * k) (omega (arith, ap (λ (n : ℕ). n * m) p, ap (λ (n : ℕ). n * k) q))

@@ -1,5 +1,6 @@
 -- Document 01, "Codes": the two formats, and what reading and writing a code answer. One definition of each serves both formats.
--- A format's constants are the struct `Format` of src/code.rt, and a code taken apart is the struct `Code`.
+-- A format's constants are the struct `Format` of src/code.rt, and a code taken apart is the struct `Code`. `minus a b` (lib.Ieee) is a − b as a
+-- whole number.
 use mathlib.Core.Bool.{Bool, false, not, _&&_, Bool·beq, cond}
 use mathlib.Core.List.{List, [], _∷_}
 use mathlib.Core.Option.{Option, none, some}
@@ -23,7 +24,17 @@ use Rattle.numbers.specs.declared.number.Number.{Number}
 use Rattle.numbers.specs.declared.number.Number.the-variants.{Zero, Finite}
 use Rattle.numbers.specs.declared.task.Mode.the-variants.{Trunc}
 
--- "Each format carries its own precision, bias and exponent ends."
+-- "Little-endian.": the whole number in some bytes, and the n lowest bytes of a whole number
+unfoldable pub littleEndian : List ℕ → ℕ
+littleEndian [] = 0
+littleEndian (b ∷ bytes) = b + 256 * littleEndian bytes
+
+unfoldable pub bytesOf : ℕ → ℕ → List ℕ
+bytesOf zero w = []
+bytesOf (suc n) w = w % 256 ∷ bytesOf n (w / 256)
+
+-- "Each format carries its own precision, bias and exponent ends." `stored` says how many bits of the significand a code has; `lowest` and `highest`
+-- are the exponents of field 1 and of the last field below all ones.
 -- "Double-extended: 8 bytes of S with its explicit top bit, then 15 exponent bits (bias 16,383) under the sign bit."
 unfoldable pub doubleExtended : Format
 doubleExtended = record { length = 10; precision = 64; stored = 64; bias = 16383; lowest = negℤ (pos 16382); highest = pos 16383 }
@@ -39,40 +50,37 @@ exponentBits f = 8 * f .length - f .stored - 1
 unfoldable pub allOnes : Format → ℕ
 allOnes f = 2 ^ exponentBits f - 1
 
--- "Little-endian.": the whole number in some bytes, and the n lowest bytes of a whole number
-unfoldable pub littleEndian : List ℕ → ℕ
-littleEndian [] = 0
-littleEndian (b ∷ bytes) = b + 256 * littleEndian bytes
-
-unfoldable pub bytesOf : ℕ → ℕ → List ℕ
-bytesOf zero w = []
-bytesOf (suc n) w = w % 256 ∷ bytesOf n (w / 256)
-
 -- the leading one of a normal number, where the code does not store it
 unfoldable pub leadingOne : Format → ℕ → ℕ
 leadingOne f field = cond (ltb (f .stored) (f .precision) && ltb 0 field) (2 ^ f .stored) 0
 
--- The bits of a code taken apart, and put together. The significand has its leading one, stored or not.
+-- The bits of a code taken apart, and put together. The significand has its leading one, stored or not; the sign bit is set where it is negative.
 unfoldable pub split : Format → ℕ → Code
 split f w =
     let upper = w / 2 ^ f .stored in
     let field = upper % 2 ^ exponentBits f in
     record { negative = ltb 0 (upper / 2 ^ exponentBits f); field = field; significand = w % 2 ^ f .stored + leadingOne f field }
 
+abbrev pub signBit : Bool → ℕ
+signBit negative = cond negative 1 0
+
 unfoldable pub join : Format → Code → ℕ
-join f c = (cond (c .negative) 1 0 * 2 ^ exponentBits f + c .field) * 2 ^ f .stored + c .significand % 2 ^ f .stored
+join f c = (signBit (c .negative) * 2 ^ exponentBits f + c .field) * 2 ^ f .stored + c .significand % 2 ^ f .stored
 
--- The number that a code has: sign × significand × 2^(e − precision + 1), where e is field − bias. "Exponent field 0 holds zero and the numbers
--- below normal": it counts as field 1 without the leading one.
+-- "Exponent field 0 holds zero and the numbers below normal": it counts as field 1, without the leading one.
+abbrev pub counted : ℕ → ℕ
+counted field = cond (eqb field 0) 1 field
+
+-- The value of a code, as a number whose top bit may be clear: sign × significand × 2^(e − precision + 1), where e is the field less the bias.
 unfoldable pub decoded : Format → Code → Number
-decoded f c = Finite (c .negative) (minus (cond (eqb (c .field) 0) 1 (c .field)) (f .bias)) (c .significand * 2 ^ (64 - f .precision))
+decoded f c = Finite (c .negative) (minus (counted (c .field)) (f .bias)) (c .significand * 2 ^ (64 - f .precision))
 
--- that value with the top bit of S set, or zero: it has no more than 64 bits, so that nothing is dropped
+-- The number with that value and its top bit set, or zero. It has no more than 64 bits, so that nothing is dropped: `read-value` shows it.
 unfoldable pub normalized : Number → Number
 normalized x = round Trunc 64 (value x)
 
--- Row 11: "negative zero; double-extended with top bit set at field 0 or clear at another field". A binary64 significand has its top bit set at every
--- field but 0 as it is taken apart, so that there only negative zero is left.
+-- Row 11: "negative zero; double-extended with top bit set at field 0 or clear at another field". A binary64 code stores no top bit; `split` adds it
+-- at every field but 0, so that only negative zero is left to refuse. A canonical code is the one that its number is written as.
 unfoldable pub isCanonical : Format → Code → Bool
 isCanonical f c = Bool·beq (leb (2 ^ (f .precision - 1)) (c .significand)) (ltb 0 (c .field)) && not (c .negative && eqb (c .significand) 0)
 
@@ -90,7 +98,7 @@ readingOf f bytes =
     cond (not (eqb (length bytes) (f .length))) (refused 9)
     (judgedCode f c (normalized (decoded f c)))
 
--- The field of an exponent, and how far it lies below the lowest one: there the field is 0, and the significand moves right.
+-- The field of the exponent e, and how far e lies below the lowest exponent; there the field is 0, and the significand moves right by as many bits.
 unfoldable pub fieldOf : Format → ℤ → ℕ
 fieldOf f e = cond (leZ (f .lowest) e) (natAbs (e +ℤ pos (f .bias))) 0
 
@@ -102,8 +110,11 @@ unfoldable pub encoded : Format → Bool → ℤ → ℕ → Code
 encoded f negative e S = record { negative = negative; field = fieldOf f e; significand = S / 2 ^ (belowNormal f e + (64 - f .precision)) }
 
 -- the code that equals a working number, if there is one
+abbrev pub zeroCode : Code
+zeroCode = record { negative = false; field = 0; significand = 0 }
+
 unfoldable pub equalCode : Format → Number → Option Code
-equalCode f Zero = some (record { negative = false; field = 0; significand = 0 })
+equalCode f Zero = some zeroCode
 equalCode f (Finite negative e S) =
     let c = encoded f negative e S in
     cond (leZ e (f .highest) && isEqual (value (decoded f c)) (value (Finite negative e S))) (some c) none
@@ -136,12 +147,12 @@ reading read.WrongLength = refused 9
 reading read.AllOnes = refused 10
 reading read.Noncanonical = refused 11
 
-unfoldable pub writing : Writing → Option ℕ
-writing write.Written = none
-writing write.Unfit = some 3
-writing write.WrongLength = some 9
-writing write.NoEqualCode = some 12
+unfoldable pub refusalOf : Writing → Option ℕ
+refusalOf write.Written = none
+refusalOf write.Unfit = some 3
+refusalOf write.WrongLength = some 9
+refusalOf write.NoEqualCode = some 12
 
--- an answer with the bytes at exit
-unfoldable pub left : Writing → List ℕ → Lent
-left answer bytes = record { refusal = writing answer; bytes = bytes }
+-- the answer with the bytes at exit
+unfoldable pub writing : Writing → List ℕ → Lent
+writing answer bytes = record { refusal = refusalOf answer; bytes = bytes }

@@ -13,13 +13,13 @@ use Rattle.numbers.specs.Fraction.{Fraction, Equal, signed, value}
 use Rattle.numbers.specs.Number.{isBetween}
 use Rattle.numbers.specs.declared.code.Code.{Code}
 use Rattle.numbers.specs.declared.code.Format.{Format}
-use Rattle.numbers.specs.declared.code.Packing.{Packing}
-use Rattle.numbers.specs.declared.code.Packing.the-variants as pack
+use Rattle.numbers.specs.declared.pack.Packing.{Packing}
+use Rattle.numbers.specs.declared.pack.Packing.the-variants as pack
 use Rattle.numbers.specs.declared.number.Number.{Number}
 use Rattle.numbers.specs.declared.number.Number.the-variants.{Zero, Finite}
 
--- What the constants of a format have to do with each other. A code stores all bits of a significand or all but the top one; the bias is half
--- of the fields; the ends are the exponents of field 1 and of the highest field that is a number.
+-- What the constants of a format have to do with each other. A code stores all bits of a significand or all but the top one; the bias is one
+-- less than half the number of fields; the ends are the exponents of field 1 and of the last field below all ones.
 pub record IsFormat (f : Format) : Type 0 where
   pub some-bits : 1 ≤ f .precision
   pub word-bits : f .precision ≤ 64

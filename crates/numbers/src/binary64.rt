@@ -2,26 +2,26 @@
 // The leading one of a normal number is not stored.
 ghost use mathlib.Core.Path.{_≡_};
 ghost use lib.ListN.{length};
-ghost use Rattle.numbers.specs.Codes.{binary64, littleEndian, bytesOf, leadingOne, split, join, reading, readingOf, left, writingOf};
+ghost use Rattle.numbers.specs.Codes.{binary64, littleEndian, bytesOf, leadingOne, split, join, reading, readingOf, writing, writingOf};
 ghost use Rattle.numbers.specs.Layout.{IsCode};
 use super::code::Code;
 use super::code::Format;
-use super::code::Packing;
 use super::code::Reading;
 use super::code::Writing;
-use super::code::number_of;
-use super::code::pack;
-use super::code::sign_of;
+use super::decode::number_of;
 use super::little_endian;
 use super::number::Number;
 use super::number::is_working;
+use super::pack::Packing;
+use super::pack::pack;
+use super::pack::sign_bit;
 
 // The bits of a code: the fraction, above it the exponent field, and the sign.
 pub struct Binary64 {
     bits: u64,
 }
 
-// 2^52, above the fraction, and 2^11, above the exponent field.
+// How many fractions and how many exponent fields there are: 2^52 and 2^11.
 const FRACTIONS: u64 = 0x10_0000_0000_0000;
 
 const FIELDS: u64 = 2_048;
@@ -58,7 +58,7 @@ impl Binary64 {
 
     // Writes the code that equals x, or leaves the bytes as they were.
     pub fn write(x: Number, bytes: &mut [u8]) -> Writing
-        ensures { λ r. ⌜ left r (now (bytes .exit)) ≡ writingOf binary64 x (now (bytes .entry)) ⌝ }
+        ensures { λ r. ⌜ writing r (now (bytes .exit)) ≡ writingOf binary64 x (now (bytes .entry)) ⌝ }
     {
         let fit = is_working(x);
         let length = bytes.len();
@@ -113,7 +113,7 @@ impl Binary64 {
         requires { ⌜ IsCode binary64 code ⌝ }
         ensures { λ r. ⌜ r .bits ≡ join binary64 code ⌝ }
     {
-        let upper = sign_of(code.negative) * FIELDS + code.field as u64;
+        let upper = sign_bit(code.negative) * FIELDS + code.field as u64;
         Binary64 {
             bits: upper * FRACTIONS + code.significand % FRACTIONS,
         }

@@ -2,20 +2,20 @@
 // explicit top bit, 15 exponent bits and the sign bit.
 ghost use mathlib.Core.Path.{_≡_};
 ghost use lib.ListN.{length};
-ghost use Rattle.numbers.specs.Codes.{doubleExtended, littleEndian, bytesOf, split, join, reading, readingOf, left, writingOf};
+ghost use Rattle.numbers.specs.Codes.{doubleExtended, littleEndian, bytesOf, split, join, reading, readingOf, writing, writingOf};
 ghost use Rattle.numbers.specs.Layout.{IsCode};
 ghost use Rattle.numbers.specs.Words.{wide};
 use super::code::Code;
 use super::code::Format;
-use super::code::Packing;
 use super::code::Reading;
 use super::code::Writing;
-use super::code::number_of;
-use super::code::pack;
-use super::code::sign_of;
+use super::decode::number_of;
 use super::little_endian;
 use super::number::Number;
 use super::number::is_working;
+use super::pack::Packing;
+use super::pack::pack;
+use super::pack::sign_bit;
 
 // The bits of a code: the significand, and above it the exponent field and the sign.
 pub struct DoubleExtended {
@@ -23,7 +23,7 @@ pub struct DoubleExtended {
     significand: u64,
 }
 
-// 2^15, above the exponent field.
+// How many exponent fields there are: 2^15.
 const FIELDS: u64 = 32_768;
 
 impl DoubleExtended {
@@ -51,7 +51,7 @@ impl DoubleExtended {
 
     // Writes the code that equals x, or leaves the bytes as they were.
     pub fn write(x: Number, bytes: &mut [u8]) -> Writing
-        ensures { λ r. ⌜ left r (now (bytes .exit)) ≡ writingOf doubleExtended x (now (bytes .entry)) ⌝ }
+        ensures { λ r. ⌜ writing r (now (bytes .exit)) ≡ writingOf doubleExtended x (now (bytes .entry)) ⌝ }
     {
         let fit = is_working(x);
         let length = bytes.len();
@@ -110,7 +110,7 @@ impl DoubleExtended {
         requires { ⌜ IsCode doubleExtended code ⌝ }
         ensures { λ r. ⌜ wide (r .upper) (r .significand) ≡ join doubleExtended code ⌝ }
     {
-        let upper = sign_of(code.negative) * FIELDS + code.field as u64;
+        let upper = sign_bit(code.negative) * FIELDS + code.field as u64;
         DoubleExtended {
             upper: upper as u16,
             significand: code.significand,

@@ -4,11 +4,13 @@
 pub mod answer;
 pub mod binary64;
 pub mod code;
+mod decode;
 pub mod double_extended;
 mod little_endian;
 pub mod number;
 mod operand;
 pub mod operation;
+mod pack;
 mod rounding;
 mod sum;
 pub mod task;

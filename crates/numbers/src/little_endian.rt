@@ -13,12 +13,12 @@ pub(crate) fn read(bytes: &[u8]) -> u64
     let mut i = bytes.len();
     while i > 0 {
         i -= 1;
-        w = w * 256 + wide(bytes[i]);
+        w = w * 256 + word(bytes[i]);
     }
     w
 }
 
-fn wide(byte: u8) -> u64
+fn word(byte: u8) -> u64
     ensures { λ r. ⌜ r ≡ byte ⌝ }
 {
     byte as u64

@@ -26,7 +26,7 @@ pub const LOWEST_ADMISSIBLE: i32 = -16_446;
 pub const HIGHEST_ADMISSIBLE: i32 = 16_384;
 
 // What is added to a working exponent inside the crate, and the highest sum.
-const BIAS: i32 = 65_535;
+pub(crate) const BIAS: u32 = 65_535;
 
 pub(crate) const HIGHEST_BIASED: u32 = 131_071;
 
@@ -90,7 +90,7 @@ pub(crate) fn biased(exponent: i32) -> u32
     requires { ⌜ isWorkingExponent exponent ≡ true ⌝ }
     ensures { λ r. ⌜ (exponent ≡ minus r 65535) × (r ≤ 131071) ⌝ }
 {
-    (exponent + BIAS) as u32
+    (exponent + BIAS as i32) as u32
 }
 
 // The exponent that a biased one stands for.
@@ -98,5 +98,5 @@ pub(crate) fn unbiased(b: u32) -> i32
     requires { ⌜ b ≤ 131071 ⌝ }
     ensures { λ r. ⌜ r ≡ minus b 65535 ⌝ }
 {
-    b as i32 - BIAS
+    b as i32 - BIAS as i32
 }

@@ -5,13 +5,13 @@ use mathlib.Core.List.{List}
 use Prim.Native.Nat.{ℕ}
 use lib.ListN.{length}
 use borrow.Author.Tests.{eq-eqb, ne-eqb}
-use Rattle.numbers.specs.Codes.{littleEndian, bytesOf, split, join, decoded, normalized, judgedCode, readingOf, equalCode, unwritten, packed, writingOf, reading, writing, left}
+use Rattle.numbers.specs.Codes.{littleEndian, bytesOf, split, join, decoded, normalized, judgedCode, readingOf, equalCode, unwritten, packed, writingOf, reading, refusalOf, writing}
 use Rattle.numbers.specs.Layout.{IsFormat, IsCode, packing}
 use Rattle.numbers.specs.Number.{isWorking}
 use Rattle.numbers.specs.declared.code.Code.{Code}
 use Rattle.numbers.specs.declared.code.Format.{Format}
-use Rattle.numbers.specs.declared.code.Packing.{Packing}
-use Rattle.numbers.specs.declared.code.Packing.the-variants as pack
+use Rattle.numbers.specs.declared.pack.Packing.{Packing}
+use Rattle.numbers.specs.declared.pack.Packing.the-variants as pack
 use Rattle.numbers.specs.declared.code.Reading.{Reading}
 use Rattle.numbers.specs.declared.code.Reading.the-variants as read
 use Rattle.numbers.specs.declared.code.Writing.the-variants as write
@@ -37,13 +37,13 @@ read-requires f held w c formed is code-is = rw (is, code-is) (formed, split-cod
 -- ---- writing; `fit` is what the test of x answered, and r what packing found
 
 module _ (f : Format) (x : Number) (fit : Bool) (fit-is : fit ≡ isWorking x) where
-  pub write-unfit : (old : List ℕ) → fit ≡ false → left write.Unfit old ≡ writingOf f x old
-  unfolding left writing writingOf unwritten
+  pub write-unfit : (old : List ℕ) → fit ≡ false → writing write.Unfit old ≡ writingOf f x old
+  unfolding writing refusalOf writingOf unwritten
   write-unfit old h = rw (sym fit-is ∙ h)
 
   module _ (working : fit ≡ true) where
-    pub write-wrong-length : (old : List ℕ) → (length old ≡ f .length → ⊥) → left write.WrongLength old ≡ writingOf f x old
-    unfolding left writing writingOf unwritten
+    pub write-wrong-length : (old : List ℕ) → (length old ≡ f .length → ⊥) → writing write.WrongLength old ≡ writingOf f x old
+    unfolding writing refusalOf writingOf unwritten
     write-wrong-length old h = rw (sym fit-is ∙ working, ne-eqb (length old) (f .length) h)
 
     pub write-requires : (held : Format) → IsFormat f → held ≡ f → IsFormat held × (isWorking x ≡ true)
@@ -53,15 +53,15 @@ module _ (f : Format) (x : Number) (fit : Bool) (fit-is : fit ≡ isWorking x) w
       packing-is : packing r ≡ equalCode f x
       packing-is = found ∙ ap (λ (g : Format). equalCode g x) is
 
-      pub write-no-code : (old : List ℕ) → length old ≡ f .length → r ≡ pack.NoEqualCode → left write.NoEqualCode old ≡ writingOf f x old
-      unfolding left writing writingOf unwritten packed packing
+      pub write-no-code : (old : List ℕ) → length old ≡ f .length → r ≡ pack.NoEqualCode → writing write.NoEqualCode old ≡ writingOf f x old
+      unfolding writing refusalOf writingOf unwritten packed packing
       write-no-code old h none-is = rw (sym fit-is ∙ working, eq-eqb (length old) (f .length) h, sym packing-is, none-is)
 
       pub write-code-fits : (c : Code) → IsFormat f → r ≡ pack.Code c → IsCode f c
       unfolding packing
       write-code-fits c formed code-is = equal-code-fits f x c formed (sym fit-is ∙ working) (sym packing-is ∙ ap packing code-is)
 
-      pub write-code : (c : Code) (w : ℕ) (old new : List ℕ) → length old ≡ f .length → r ≡ pack.Code c → w ≡ join f c → new ≡ bytesOf (f .length) w → left write.Written new ≡ writingOf f x old
-      unfolding left writing writingOf packed packing
+      pub write-code : (c : Code) (w : ℕ) (old new : List ℕ) → length old ≡ f .length → r ≡ pack.Code c → w ≡ join f c → new ≡ bytesOf (f .length) w → writing write.Written new ≡ writingOf f x old
+      unfolding writing refusalOf writingOf packed packing
       write-code c w old new h code-is word-is new-is =
           rw (sym fit-is ∙ working, eq-eqb (length old) (f .length) h, sym packing-is, code-is, new-is, word-is)

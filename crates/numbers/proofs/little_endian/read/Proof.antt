@@ -58,16 +58,16 @@ mul-w c =
     let turn = next _ _ _ _ (c .before .loop .inv) (c .loop-test .taken) refl (c .before .before .shared-slice-known .given (c .before .loop .i - 1) .fits) in
     fits-of-lt (lt-of-le-of-lt (le-add-right _ _) (room _ _ _ turn (c .before .before .before .pre)))
 
-shared-slice-read-wide : tie.Need-shared-slice-read-wide Inv-loop μ-loop
-shared-slice-read-wide c = omega (arith, c .before .before .loop .inv .within, c .before .loop-test .taken)
+shared-slice-read-word : tie.Need-shared-slice-read-word Inv-loop μ-loop
+shared-slice-read-word c = omega (arith, c .before .before .loop .inv .within, c .before .loop-test .taken)
 
-wide-requires : tie.Need-wide-requires Inv-loop μ-loop
-wide-requires c κs = search needs
+word-requires : tie.Need-word-requires Inv-loop μ-loop
+word-requires c κs = search needs
 
 loop-again : tie.Need-loop-again Inv-loop μ-loop
 loop-again c =
     let at-loop = c .before .before .before in
-    next _ _ _ _ (at-loop .loop .inv) (c .before .before .loop-test .taken) (c .wide .ensures) (rw (c .wide .ensures) (c .before .shared-slice-known2 .given (at-loop .loop .i - 1) .fits))
+    next _ _ _ _ (at-loop .loop .inv) (c .before .before .loop-test .taken) (c .word .ensures) (rw (c .word .ensures) (c .before .shared-slice-known2 .given (at-loop .loop .i - 1) .fits))
 
 add-w : tie.Need-add-w Inv-loop μ-loop
 add-w c = fits-of-lt (room _ _ _ (loop-again c) (c .before .before .before .before .before .pre))
@@ -87,8 +87,8 @@ read-spec =
     loop-holds
     sub-i
     mul-w
-    shared-slice-read-wide
-    wide-requires
+    shared-slice-read-word
+    word-requires
     add-w
     loop-less
     loop-again

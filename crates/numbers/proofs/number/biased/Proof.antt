@@ -7,6 +7,7 @@ use lib.IntN.{ℤ, pos, _+ℤ_}
 use mir.Facts.{toZ-ofZ}
 use mir.Syntax.{w32}
 use mir.Val.{SFits, toZ, ofZ}
+use borrow.Author.Needs.{needs}
 use Rattle.numbers.specs.Number.{isWorkingExponent}
 use Rattle.numbers.proofs.Laws.Bias.{biased-working}
 use Rattle.numbers.proofs.number.biased.Statement.{statement}
@@ -22,11 +23,14 @@ module _ (e : ℤ) (fits : SFits w32 e) (working : isWorkingExponent e ≡ true)
   sum-is : toZ w32 (ofZ w32 (toZ w32 (ofZ w32 e) +ℤ pos 65535)) ≡ pos (biased-working e working .0)
   sum-is = toZ-ofZ sum-fits ∙ ap (λ (z : ℤ). z +ℤ pos 65535) (toZ-ofZ fits) ∙ biased-working e working .1
 
+cast-result : tie.Need-cast-result
+cast-result c = search needs
+
 add-result : tie.Need-add-result
 add-result c = sum-fits (c .args .exponent) (c .fits .exponent) (c .pre)
 
-cast-result : tie.Need-cast-result
-cast-result c =
+cast-result-2 : tie.Need-cast-result-2
+cast-result-2 c =
     let w = biased-working (c .args .exponent) (c .pre) in
     rw (sum-is (c .args .exponent) (c .fits .exponent) (c .pre)) (tt, record { fits = omega (arith, w .2) })
 
@@ -36,4 +40,4 @@ returns c =
     rw (sum-is (c .args .exponent) (c .fits .exponent) (c .pre)) (w .3, w .2)
 
 pub biased-spec : {M : Type 1} → statement M
-biased-spec = tie.close (tie.spec add-result cast-result returns)
+biased-spec = tie.close (tie.spec cast-result add-result cast-result-2 returns)

@@ -15,6 +15,9 @@ use Rattle.numbers.proofs.number.unbiased.Tie as tie
 cast-result : tie.Need-cast-result
 cast-result c = search needs
 
+cast-result-2 : tie.Need-cast-result-2
+cast-result-2 c = search needs
+
 module _ (b : ℕ) (h : b ≤ 131071) where
   difference-is : toZ w32 b -ℤ pos 65535 ≡ minus b 65535
   difference-is = ap (λ (z : ℤ). z -ℤ pos 65535) (toZ-pos w32 {n = b} (omega arith)) ∙ less-bias b
@@ -29,4 +32,4 @@ returns : tie.Need-returns
 returns c = toZ-ofZ (difference-fits (c .args .b) (c .pre)) ∙ difference-is (c .args .b) (c .pre)
 
 pub unbiased-spec : {M : Type 1} → statement M
-unbiased-spec = tie.close (tie.spec cast-result sub-result returns)
+unbiased-spec = tie.close (tie.spec cast-result cast-result-2 sub-result returns)

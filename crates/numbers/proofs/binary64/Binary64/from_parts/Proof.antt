@@ -8,13 +8,13 @@ use Rattle.numbers.proofs.Laws.Bytes.{upper-below}
 use Rattle.numbers.proofs.binary64.Binary64.from_parts.Statement.{statement}
 use Rattle.numbers.proofs.binary64.Binary64.from_parts.Tie as tie
 
-sign-of-requires : tie.Need-sign-of-requires
-sign-of-requires c κs = search needs
+sign-bit-requires : tie.Need-sign-bit-requires
+sign-bit-requires c κs = search needs
 
 -- the sign and the field have 12 bits
-room : (c : tie.After-sign-of) → c .sign-of .result * 2048 + c .before .args .code .field < 4096
+room : (c : tie.After-sign-bit) → c .sign-bit .result * 2048 + c .before .args .code .field < 4096
 unfolding exponentBits binary64
-room c = upper-below binary64 _ _ (c .before .pre) (c .sign-of .ensures)
+room c = upper-below binary64 _ _ (c .before .pre) (c .sign-bit .ensures)
 
 mul-upper : tie.Need-mul-upper
 mul-upper c = omega (arith, room c)
@@ -33,8 +33,8 @@ add-t4 c = omega (arith, room (c .before .before))
 
 returns : tie.Need-returns
 unfolding join exponentBits binary64
-returns c = rw (c .before .before .sign-of .ensures)
+returns c = rw (c .before .before .sign-bit .ensures)
 
 pub from-parts-spec : {M : Type 1} → statement M
 from-parts-spec =
-    tie.close (tie.spec sign-of-requires mul-upper cast-upper add-upper mul-t3 add-t4 returns)
+    tie.close (tie.spec sign-bit-requires mul-upper cast-upper add-upper mul-t3 add-t4 returns)

@@ -10,13 +10,13 @@ use Rattle.numbers.proofs.Laws.Bytes.{upper-below}
 use Rattle.numbers.proofs.double_extended.DoubleExtended.from_parts.Statement.{statement}
 use Rattle.numbers.proofs.double_extended.DoubleExtended.from_parts.Tie as tie
 
-sign-of-requires : tie.Need-sign-of-requires
-sign-of-requires c κs = search needs
+sign-bit-requires : tie.Need-sign-bit-requires
+sign-bit-requires c κs = search needs
 
 -- the sign and the field have 16 bits
-room : (c : tie.After-sign-of) → c .sign-of .result * 32768 + c .before .args .code .field < 65536
+room : (c : tie.After-sign-bit) → c .sign-bit .result * 32768 + c .before .args .code .field < 65536
 unfolding exponentBits doubleExtended
-room c = upper-below doubleExtended _ _ (c .before .pre) (c .sign-of .ensures)
+room c = upper-below doubleExtended _ _ (c .before .pre) (c .sign-bit .ensures)
 
 mul-upper : tie.Need-mul-upper
 mul-upper c = omega (arith, room c)
@@ -32,8 +32,8 @@ cast-t6 c = omega (arith, room (c .before))
 
 returns : tie.Need-returns
 unfolding join exponentBits doubleExtended wide
-returns c = rw (c .before .sign-of .ensures, mod-eq-of-lt (c .before .before .pre .significand-fits))
+returns c = rw (c .before .sign-bit .ensures, mod-eq-of-lt (c .before .before .pre .significand-fits))
 
 pub from-parts-spec : {M : Type 1} → statement M
 from-parts-spec =
-    tie.close (tie.spec sign-of-requires mul-upper cast-upper add-upper cast-t6 returns)
+    tie.close (tie.spec sign-bit-requires mul-upper cast-upper add-upper cast-t6 returns)

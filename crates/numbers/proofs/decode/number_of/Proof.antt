@@ -1,4 +1,4 @@
--- `numbers::code::number_of` meets its contract: a number that was decoded is normalized, and a refusal is returned as it is.
+-- `numbers::decode::number_of` meets its contract: a number that was decoded is normalized, and a refusal is returned as it is.
 use mathlib.Core.Path.{_≡_, refl, sym, ap, _∙_}
 use mathlib.Core.Bool.{Bool, true, false, not, cond}
 use mathlib.Core.List.{[], _∷_}
@@ -22,8 +22,8 @@ use Rattle.numbers.specs.declared.number.Number.{Number}
 use Rattle.numbers.proofs.Laws.Decoded.{counted-most}
 use Rattle.numbers.proofs.Laws.Places.{minus-order}
 use Rattle.numbers.proofs.code.Reading.{the-type}
-use Rattle.numbers.proofs.code.number_of.Statement.{statement}
-use Rattle.numbers.proofs.code.number_of.Tie as tie
+use Rattle.numbers.proofs.decode.number_of.Statement.{statement}
+use Rattle.numbers.proofs.decode.number_of.Tie as tie
 
 -- a judgement in which x is given only where nothing refuses
 judge : Bool → Bool → Number → Outcome

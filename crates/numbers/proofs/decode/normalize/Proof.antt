@@ -1,4 +1,4 @@
--- `numbers::code::normalize` meets its contract: the significand moves left by its leading zeros, and the exponent goes down by as many.
+-- `numbers::decode::normalize` meets its contract: the significand moves left by its leading zeros, and the exponent goes down by as many.
 use mathlib.Core.Path.{_≡_, refl, sym, ap, _∙_}
 use mathlib.Core.Bool.{Bool, true, and-eq-true-iff}
 use Prim.Native.Nat.{ℕ, _+_, _-_, _*_, _%_, _^_, _≤_, _<_}
@@ -21,8 +21,8 @@ use Rattle.numbers.specs.declared.number.Number.the-variants.{Zero, Fini
 use Rattle.numbers.proofs.Laws.Decoded.{normalized-working, normalized-shift, normalized-zero}
 use Rattle.numbers.proofs.Laws.Places.{minus-order}
 use Rattle.numbers.proofs.Laws.Words.{raised}
-use Rattle.numbers.proofs.code.normalize.Statement.{statement}
-use Rattle.numbers.proofs.code.normalize.Tie as tie
+use Rattle.numbers.proofs.decode.normalize.Statement.{statement}
+use Rattle.numbers.proofs.decode.normalize.Tie as tie
 
 zero-number : (x : Number) → x ≡ Zero → Zero ≡ normalized x
 unfolding isWorking isFit

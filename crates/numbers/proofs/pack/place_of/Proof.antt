@@ -1,4 +1,4 @@
--- `numbers::code::place_of` meets its contract: biased, the exponents are natural numbers, and their difference is a field or a distance.
+-- `numbers::pack::place_of` meets its contract: biased, the exponents are natural numbers, and their difference is a field or a distance.
 use mathlib.Core.Path.{_≡_, sym, ap, _∙_}
 use mathlib.Core.Bool.{true}
 use Prim.Native.Nat.{ℕ, _+_, _-_, _^_, _≤_, _<_}
@@ -15,8 +15,8 @@ use Rattle.numbers.specs.Number.{isWorkingExponent}
 use Rattle.numbers.specs.declared.code.Format.{Format}
 use Rattle.numbers.proofs.Laws.Bias.{minus-small, working}
 use Rattle.numbers.proofs.Laws.Places.{minus-only, place-normal, place-below}
-use Rattle.numbers.proofs.code.place_of.Statement.{statement}
-use Rattle.numbers.proofs.code.place_of.Tie as tie
+use Rattle.numbers.proofs.pack.place_of.Statement.{statement}
+use Rattle.numbers.proofs.pack.place_of.Tie as tie
 
 module _ (f : Format) (formed : IsFormat f) where
   low : f .bias ≤ 32767

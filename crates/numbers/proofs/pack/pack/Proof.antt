@@ -1,4 +1,4 @@
--- `numbers::code::pack` meets its contract: the code has the number's value where no bit of the significand is cut off.
+-- `numbers::pack::pack` meets its contract: the code has the number's value where no bit of the significand is cut off.
 use mathlib.Core.Path.{_≡_, refl, sym, ap, ap₂, _∙_}
 use mathlib.Core.Bool.{Bool, true, false, not}
 use Prim.Native.Nat.{ℕ, _+_, _-_, _/_, _%_, _^_, _≤_, _<_}
@@ -19,15 +19,15 @@ use Rattle.numbers.specs.Fraction.{value, isEqual}
 use Rattle.numbers.specs.Layout.{IsFormat, packing}
 use Rattle.numbers.specs.Number.{isWorkingExponent, isWorking}
 use Rattle.numbers.specs.declared.code.Format.{Format}
-use Rattle.numbers.specs.declared.code.Packing.the-variants.{Code, NoEqualCode}
+use Rattle.numbers.specs.declared.pack.Packing.the-variants.{Code, NoEqualCode}
 use Rattle.numbers.specs.declared.number.Number.{Number}
 use Rattle.numbers.specs.declared.number.Number.the-variants.{Zero, Finite}
 use Rattle.numbers.proofs.Laws.Bias.{biased-working}
 use Rattle.numbers.proofs.Laws.Decoded.{encoded-equal}
 use Rattle.numbers.proofs.Laws.Operands.{working-parts}
 use Rattle.numbers.proofs.Laws.Places.{place-normal, place-below}
-use Rattle.numbers.proofs.code.pack.Statement.{statement}
-use Rattle.numbers.proofs.code.pack.Tie as tie
+use Rattle.numbers.proofs.pack.pack.Statement.{statement}
+use Rattle.numbers.proofs.pack.pack.Tie as tie
 
 -- a test of two whole numbers, turned round
 turned : (a b : ℤ) → leZ b a ≡ not (ltZ a b)

@@ -1,4 +1,4 @@
--- `numbers::code::decode` meets its contract: the refusals in their order, and then the exponent and the significand of the code.
+-- `numbers::decode::decode` meets its contract: the refusals in their order, and then the exponent and the significand of the code.
 use mathlib.Core.Path.{_≡_, sym, ap, _∙_}
 use mathlib.Core.Bool.{Bool, true, false, cond}
 use Prim.Native.Nat.{ℕ, _+_, _-_, _*_, _%_, _^_, _≤_}
@@ -24,8 +24,8 @@ use Rattle.numbers.proofs.Laws.Decoded.{counted-most}
 use Rattle.numbers.proofs.Laws.Exponent.{minus-same}
 use Rattle.numbers.proofs.Laws.Parts.{all-ones}
 use Rattle.numbers.proofs.Laws.Powers.{word-power}
-use Rattle.numbers.proofs.code.decode.Statement.{statement}
-use Rattle.numbers.proofs.code.decode.Tie as tie
+use Rattle.numbers.proofs.decode.decode.Statement.{statement}
+use Rattle.numbers.proofs.decode.decode.Tie as tie
 
 module _ (f : Format) (c : Code) (x : Number) (formed : IsFormat f) (fits : IsCode f c) where
   at-all-ones : c .field ≡ 2 * f .bias + 1 → reading AllOnes ≡ judgedCode f c x

@@ -1,4 +1,4 @@
--- `numbers::code::is_canonical` meets its contract: the top bit, as the machine makes it, is 2^(precision − 1).
+-- `numbers::decode::is_canonical` meets its contract: the top bit, as the machine makes it, is 2^(precision − 1).
 use mathlib.Core.Path.{_≡_, ap, _∙_}
 use mathlib.Core.Bool.{true, false, not, _&&_, Bool·beq, and-false, and-true}
 use Prim.Native.Nat.{ℕ, _-_, _*_, _%_, _^_, _≤_, _<_}
@@ -13,8 +13,8 @@ use Rattle.numbers.specs.Codes.{isCanonical}
 use Rattle.numbers.specs.Layout.{IsFormat}
 use Rattle.numbers.specs.declared.code.Code.{Code}
 use Rattle.numbers.specs.declared.code.Format.{Format}
-use Rattle.numbers.proofs.code.is_canonical.Statement.{statement}
-use Rattle.numbers.proofs.code.is_canonical.Tie as tie
+use Rattle.numbers.proofs.decode.is_canonical.Statement.{statement}
+use Rattle.numbers.proofs.decode.is_canonical.Tie as tie
 
 module _ (f : Format) (c : Code) (formed : IsFormat f) where
   top-is : 1 * 2 ^ (f .precision - 1) % 18446744073709551616 ≡ 2 ^ (f .precision - 1)

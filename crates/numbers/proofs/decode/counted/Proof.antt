@@ -1,8 +1,8 @@
--- `numbers::code::counted` meets its contract, by the test of the field.
+-- `numbers::decode::counted` meets its contract, by the test of the field.
 -- Assumes nothing.
 use borrow.Author.Tests.{eq-eqb, ne-eqb}
-use Rattle.numbers.proofs.code.counted.Statement.{statement}
-use Rattle.numbers.proofs.code.counted.Tie as tie
+use Rattle.numbers.proofs.decode.counted.Statement.{statement}
+use Rattle.numbers.proofs.decode.counted.Tie as tie
 
 returns : tie.Need-returns
 returns c = rw (eq-eqb _ _ (c .if1 .taken))

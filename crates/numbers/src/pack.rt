@@ -1,0 +1,85 @@
+// The code that equals a number, in either format.
+ghost use mathlib.Core.Path.{_≡_};
+ghost use mathlib.Core.Bool.{true};
+ghost use Rattle.numbers.specs.Codes.{signBit, fieldOf, belowNormal, equalCode};
+ghost use Rattle.numbers.specs.Layout.{IsFormat, packing};
+ghost use Rattle.numbers.specs.Number.{isWorkingExponent, isWorking};
+use super::code::Code;
+use super::code::Format;
+use super::number::BIAS;
+use super::number::Number;
+use super::number::biased;
+use super::words::cut;
+
+// The code that equals a number, or that there is none.
+pub(crate) enum Packing {
+    Code(Code),
+    NoEqualCode,
+}
+
+// The code that equals a working number, if there is one: the exponent is not above the highest, and
+// no bit of the significand falls off.
+pub(crate) fn pack(x: Number, format: Format) -> Packing
+    requires { ⌜ IsFormat format × (isWorking x ≡ true) ⌝ }
+    ensures { λ r. ⌜ packing r ≡ equalCode format x ⌝ }
+{
+    let Number::Finite {
+        negative,
+        exponent,
+        significand,
+    } = x
+    else {
+        return Packing::Code(Code {
+            negative: false,
+            field: 0,
+            significand: 0,
+        });
+    };
+    if format.highest < exponent {
+        return Packing::NoEqualCode;
+    }
+    let place = place_of(exponent, format);
+    let part = cut(significand, place.below + (64 - format.precision));
+    let kept = part.value;
+    let lost = part.rest;
+    if lost {
+        return Packing::NoEqualCode;
+    }
+    Packing::Code(Code {
+        negative,
+        field: place.field,
+        significand: kept,
+    })
+}
+
+// The field of an exponent, and how far the exponent lies below the lowest one.
+struct Place {
+    field: u32,
+    below: u32,
+}
+
+fn place_of(exponent: i32, format: Format) -> Place
+    requires { ⌜ IsFormat format × (isWorkingExponent exponent ≡ true) ⌝ }
+    ensures { λ r. ⌜ (r .field ≡ fieldOf format exponent) × (r .below ≡ belowNormal format exponent) ⌝ }
+{
+    let b = biased(exponent);
+    let lowest = biased(format.lowest);
+    if lowest <= b {
+        Place {
+            field: b - (BIAS - format.bias),
+            below: 0,
+        }
+    } else {
+        Place {
+            field: 0,
+            below: lowest - b,
+        }
+    }
+}
+
+// The sign bit.
+pub(crate) fn sign_bit(negative: bool) -> u64
+    ensures { λ r. ⌜ r ≡ signBit negative ⌝ }
+{
+    if negative { 1 } else { 0 }
+}

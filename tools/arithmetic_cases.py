@@ -10,8 +10,8 @@ from typing import Iterator, NamedTuple
 import model
 from model import AWAY, DOWN, EXACT, NEAR, STICKY, TRUNC, UP, ZERO, Finite, Number
 from operands import (
-    HIGHEST, LOWEST, ONES, TOP_BIT, answer_text, any_finite, bits, negated, number, number_text,
-    signed,
+    HIGHEST, LOWEST, ONES, TOP_BIT, UNFIT, answer_text, any_finite, any_signed, bits, negated,
+    number, number_text, signed,
 )
 
 MODES = (TRUNC, AWAY, NEAR, STICKY, UP, DOWN, EXACT)
@@ -108,11 +108,7 @@ def order_of_refusals(chance: random.Random) -> Iterator[Case]:
 
 def unfit_alone(chance: random.Random) -> Iterator[Case]:
     """Each way of being unfit, in each place, for each operation."""
-    significands = (0, 1, TOP_BIT >> 1, TOP_BIT - 1)
-    exponents = (-2**31, LOWEST - 2, LOWEST - 1, HIGHEST + 1, HIGHEST + 2, 2**31 - 1)
-    unfit = [*(Finite(False, 0, s) for s in significands),
-             *(Finite(False, e, TOP_BIT) for e in exponents)]
-    for x, operation, negative in product(unfit, OPERATIONS, (False, True)):
+    for x, operation, negative in product(UNFIT, OPERATIONS, (False, True)):
         other = any_finite(chance, -1, 1)
         yield Case(operation, NEAR, 53, signed(x, negative), other)
         yield Case(operation, DOWN, 1, other, signed(x, negative))
@@ -149,7 +145,7 @@ def far_operands(chance: random.Random) -> Iterator[Case]:
     for mode, n, d in product(MODES, (1, 53, 63, 64), (128, 129, 200, HIGHEST - LOWEST)):
         whole = bits(chance, n) if n == 64 or next(turns) % 2 else 2 * bits(chance, n) + 1
         large = number(whole << 64 - whole.bit_length(), LOWEST + d - 63)
-        large = signed(large, chance.random() < 0.5)
+        large = any_signed(chance, large)
         tiny = Finite(chance.random() < 0.5, LOWEST, chance.choice((TOP_BIT, ONES)))
         yield Case("add", mode, n, large, tiny)
         yield Case("sub", mode, n, negated(tiny), large)
@@ -291,7 +287,7 @@ def directed(chance: random.Random) -> Iterator[Case]:
     operations = cycle(OPERATIONS)
     for mode, negative, _ in product((UP, DOWN), (False, True), range(24)):
         x = signed(number(bits(chance, 64), -63), negative)
-        y = signed(number(bits(chance, 64), chance.randint(-99, -70)), chance.random() < 0.5)
+        y = any_signed(chance, number(bits(chance, 64), chance.randint(-99, -70)))
         yield Case(next(operations), mode, chance.randint(1, 64), x, y)
 
 

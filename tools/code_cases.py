@@ -9,17 +9,13 @@ from typing import Iterator, NamedTuple
 import model
 from model import BINARY64, DOUBLE_EXTENDED, ZERO, Finite, Format, Number, Refused
 from operands import (
-    HIGHEST, LOWEST, ONES, TOP_BIT, answer_text, any_finite, bits, number, number_text,
-    refusal_text, signed,
+    HIGHEST, LOWEST, ONES, TOP_BIT, UNFIT, answer_text, any_finite, any_signed, bits, number,
+    number_text, refusal_text,
 )
 
 FORMATS = (DOUBLE_EXTENDED, BINARY64)
 SIGNS = (False, True)
 LENGTHS = (0, 1, 7, 8, 9, 10, 11, 16)
-# Each way of being unfit, and both at once.
-UNFIT = (*(Finite(False, 0, s) for s in (0, 1, TOP_BIT >> 1, TOP_BIT - 1)),
-         *(Finite(False, e, TOP_BIT) for e in (-2**31, LOWEST - 1, HIGHEST + 1, 2**31 - 1)),
-         Finite(False, HIGHEST + 1, 0))
 
 
 def bytes_text(content: bytes) -> str:
@@ -92,11 +88,6 @@ def any_code(chance: random.Random, form: Format, lowest: int, highest: int) -> 
     field = chance.randint(lowest, highest)
     fraction = chance.getrandbits(fraction_bits(form))
     return code(form, chance.random() < 0.5, field, stored_top(form, field) | fraction)
-
-
-def any_signed(chance: random.Random, x: Number) -> Number:
-    """x or -x."""
-    return signed(x, chance.random() < 0.5)
 
 
 def any_buffer(chance: random.Random, length: int) -> bytes:

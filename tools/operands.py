@@ -10,6 +10,10 @@ from model import ZERO, Finite, Number, Refused
 LOWEST, HIGHEST = model.WORKING[0], model.WORKING[-1]
 TOP_BIT = 2**63
 ONES = 2**64 - 1
+# Each way of being unfit: by the top bit, and by the exponent.
+UNFIT = (*(Finite(False, 0, s) for s in (0, 1, TOP_BIT >> 1, TOP_BIT - 1)),
+         *(Finite(False, e, TOP_BIT)
+           for e in (-2**31, LOWEST - 2, LOWEST - 1, HIGHEST + 1, HIGHEST + 2, 2**31 - 1)))
 
 
 def number_text(x: Number) -> str:
@@ -48,6 +52,11 @@ def negated(x: Number) -> Number:
 def signed(x: Number, negative: bool) -> Number:
     """x, or -x where negative is set."""
     return negated(x) if negative else x
+
+
+def any_signed(chance: random.Random, x: Number) -> Number:
+    """x or -x."""
+    return signed(x, chance.random() < 0.5)
 
 
 def any_finite(chance: random.Random, lowest: int, highest: int) -> Finite:

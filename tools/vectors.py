@@ -1,10 +1,9 @@
 """Makes the cases of the program `known` and the answers it must print.
 
-    python3 tools/vectors.py [FOLDER]
+    python3 tools/vectors.py FOLDER
 
-FOLDER holds the reference model, model.py; it is ../shared/reference from the repository's root
-where none is given.  The cases go to crates/known/stdin, one to a line of 80 bytes, and the
-model's answers to crates/known/stdout.  The same cases come out of every run.
+FOLDER holds the reference model, model.py.  The cases go to crates/known/stdin, one to a line of
+80 bytes, and the model's answers to crates/known/stdout.  The same cases come out of every run.
 """
 
 from __future__ import annotations
@@ -13,10 +12,11 @@ import random
 import sys
 from pathlib import Path
 
+if len(sys.argv) != 2:
+    sys.exit("usage: python3 tools/vectors.py FOLDER, which holds model.py")
 ROOT = Path(__file__).resolve().parent.parent
-REFERENCE = Path(sys.argv[1]) if len(sys.argv) > 1 else ROOT.parent / "shared" / "reference"
 sys.dont_write_bytecode = True
-sys.path.insert(0, str(REFERENCE))
+sys.path.insert(0, sys.argv[1])
 
 import arithmetic_cases
 import code_cases

@@ -1,5 +1,5 @@
-// Prints the answer line of a case: what was asked for, or `refused` with the row of document 01's
-// table that refused.
+// Prints the answer line of a case: a number or `written`, or `refused` with the row of document 01's
+// table that refused; after a writing also the buffer.
 use super::buffer;
 use super::number;
 use super::out;

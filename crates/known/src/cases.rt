@@ -10,7 +10,7 @@ use super::line::Cursor;
 use super::line::Line;
 use super::line::Place;
 
-// Prints the answer to a line. Past a code's word and its space stands a buffer.
+// Prints the answer to a line. The word of a code case ends in a space; a buffer follows.
 pub fn run(text: &Line) {
     let start = Cursor { at: 0 };
     if let Place::Past(next) = line::past(text, start, b"add") {

@@ -32,7 +32,7 @@ pub fn run(text: &Line, c: Cursor, entry: Entry) {
     run_with(text, c, entry, &mut content[..length]);
 }
 
-// The same with bytes for the buffer.
+// The same, with the bytes that hold the buffer.
 fn run_with(text: &Line, c: Cursor, entry: Entry, bytes: &mut [u8]) {
     let Place::Past(next) = buffer::read(text, c, bytes) else {
         return answer::print_no_case();

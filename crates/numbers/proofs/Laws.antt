@@ -34,6 +34,7 @@ pub mod Decoded
 pub mod Bytes
 pub mod Leading
 pub mod Parts
+pub mod Packed
 pub mod Entries
 pub mod Codes
 -- The binary64 code is that of IEEE 754

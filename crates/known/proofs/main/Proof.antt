@@ -1,4 +1,4 @@
--- `known::main` is safe and ends: the measure is how many turns are left. Assumes nothing.
+-- `known::main` is safe and ends: the measure is how many turns are left.
 use borrow.Author.Needs.{needs}
 use Rattle.known.proofs.main.Statement.{statement}
 use Rattle.known.proofs.main.Tie as tie

@@ -1,16 +1,19 @@
--- A working exponent and its biased form, which is a natural number: e is i - o for naturals i and o, and one test of i and o says whether it is working.
-use mathlib.Core.Path.{_≡_, refl, sym, ap, _∙_}
-use mathlib.Core.Bool.{true, false, and-eq-true-iff}
-use Prim.Native.Nat.{ℕ, suc, _+_, _-_, _≤_, _<_}
+-- Exponents as differences i - o of natural numbers: added, subtracted, compared; the biased form of a working one; and the test of i and o that says
+-- whether i - o is working.
+use mathlib.Core.Path.{_≡_, refl, sym, ap, ap₂, _∙_}
+use mathlib.Core.Bool.{true, false, _&&_, and-false, and-eq-true-iff}
+use Prim.Native.Nat.{ℕ, zero, suc, _+_, _-_, _≤_, _<_}
 use native.Mathlib.Decide.{decLe}
-use native.Mathlib.Nat.{lt-of-not-le}
+use native.Mathlib.Nat.{le-antisymm, lt-of-not-le}
 use native.Mathlib.Omega.{arith}
 use lib.Dec.{leb}
 use lib.Ieee.{minus}
-use lib.IntN.{ℤ, pos, negsuc, subℕ, _+ℤ_, _-ℤ_}
-use lib.Signed.{mag}
+use lib.IntN.{ℤ, pos, negsuc, negℤ, subℕ, _+ℤ_, _-ℤ_}
+use lib.Signed.{mag, leZ}
 use borrow.Author.Tests.{leb-true, le-leb, lt-leb, le-ltb, lt-ltb}
 use Rattle.numbers.specs.Number.{isBetween, isWorkingExponent}
+use Rattle.numbers.proofs.Laws.Exponent.{minus-same}
+use Rattle.numbers.proofs.Laws.Tests.{leb-same}
 
 -- i - o where i is no less, and where it is less
 pub minus-down : (i o : ℕ) → o ≤ i → minus i o ≡ pos (i - o)
@@ -29,13 +32,6 @@ biased-working (negsuc a) h =
     let l : a ≤ 65534 = leb-true a 65534 (and-eq-true-iff (leb a 65534) true .0 h .0) in
     (65534 - a, rw (le-ltb 65535 (suc a) (omega arith)) (ap pos (omega arith)), omega arith, sym (minus-up (65534 - a) 65535 (omega arith) ∙ ap negsuc (omega arith)))
 
-pub less-bias : (b : ℕ) → pos b -ℤ pos 65535 ≡ minus b 65535
-less-bias b = go (decLe 65535 b)
-  where
-    go : Dec (65535 ≤ b) → subℕ b 65535 ≡ minus b 65535
-    go (yes h) = rw (le-ltb b 65535 h, le-leb 65535 b h)
-    go (no n) = let h : b < 65535 = lt-of-not-le n in rw (lt-ltb b 65535 h, lt-leb 65535 b h)
-
 -- |i - o| and one more, at the most
 pub minus-small : (i o k : ℕ) → i < o + k → o ≤ i + k → mag (minus i o) < k
 minus-small i o k a b = go (decLe o i)
@@ -44,33 +40,92 @@ minus-small i o k a b = go (decLe o i)
     go (yes h) = rw (le-leb o i h) (omega arith)
     go (no n) = let h : i < o = lt-of-not-le n in rw (lt-leb o i h) (omega arith)
 
--- is i - o working?
-pub working : (i o : ℕ) → o ≤ i + 65535 → i ≤ o + 65536 → isWorkingExponent (minus i o) ≡ true
-unfolding isWorkingExponent isBetween
-working i o a b = go (decLe o i)
+-- ---- sums, differences and the order
+
+sub-minus : (a b : ℕ) → subℕ a b ≡ minus a b
+sub-minus a b = go (decLe b a)
   where
-    go : Dec (o ≤ i) → isWorkingExponent (minus i o) ≡ true
-    go (yes h) = rw (minus-down i o h) (le-leb (i - o) 65536 (omega arith))
-    go (no n) = let h : i < o = lt-of-not-le n in rw (minus-up i o h, le-leb (o - suc i) 65534 (omega arith))
+    go : Dec (b ≤ a) → subℕ a b ≡ minus a b
+    go (yes h) = rw (le-ltb a b h, le-leb b a h)
+    go (no n) = let h : a < b = lt-of-not-le n in rw (lt-ltb a b h, lt-leb b a h)
+
+-- a natural number added
+pub minus-plus : (i o k : ℕ) → minus i o +ℤ pos k ≡ minus (i + k) o
+minus-plus i o k = go (decLe o i)
+  where
+    go : Dec (o ≤ i) → minus i o +ℤ pos k ≡ minus (i + k) o
+    go (yes h) = rw (minus-down i o h, minus-down (i + k) o (omega arith)) (ap pos (omega arith))
+    go (no n) =
+        let h : i < o = lt-of-not-le n in
+        rw (minus-up i o h) (sub-minus k (suc (o - suc i)) ∙ minus-same k (suc (o - suc i)) (i + k) o (omega arith))
+
+less-suc : (i o m : ℕ) → minus i o +ℤ negsuc m ≡ minus i (o + suc m)
+less-suc i o m = go (decLe o i)
+  where
+    go : Dec (o ≤ i) → minus i o +ℤ negsuc m ≡ minus i (o + suc m)
+    go (yes h) = rw (minus-down i o h) (sub-minus (i - o) (suc m) ∙ minus-same (i - o) (suc m) i (o + suc m) (omega arith))
+    go (no n) =
+        let h : i < o = lt-of-not-le n in
+        rw (minus-up i o h, minus-up i (o + suc m) (omega arith)) (ap negsuc (omega arith))
+
+less-pos : (i o n : ℕ) → minus i o +ℤ negℤ (pos n) ≡ minus i (o + n)
+less-pos i o zero = minus-plus i o 0 ∙ minus-same (i + 0) o i (o + 0) (omega arith)
+less-pos i o (suc n) = less-suc i o n
+
+-- a difference subtracted
+pub minus-minus : (i o j p : ℕ) → minus i o -ℤ minus j p ≡ minus (i + p) (o + j)
+minus-minus i o j p = go (decLe p j)
+  where
+    go : Dec (p ≤ j) → minus i o -ℤ minus j p ≡ minus (i + p) (o + j)
+    go (yes h) = rw (minus-down j p h) (less-pos i o (j - p) ∙ minus-same i (o + (j - p)) (i + p) (o + j) (omega arith))
+    go (no n) =
+        let h : j < p = lt-of-not-le n in
+        rw (minus-up j p h) (minus-plus i o (suc (p - suc j)) ∙ minus-same (i + suc (p - suc j)) o (i + p) (o + j) (omega arith))
+
+-- two differences compared
+pub minus-order : (i o j p : ℕ) → leZ (minus i o) (minus j p) ≡ leb (i + p) (j + o)
+minus-order i o j p = go (decLe o i) (decLe p j)
+  where
+    go : Dec (o ≤ i) → Dec (p ≤ j) → leZ (minus i o) (minus j p) ≡ leb (i + p) (j + o)
+    go (yes h) (yes k) = rw (minus-down i o h, minus-down j p k) (leb-same (i - o) (j - p) (i + p) (j + o) (λ (l : i - o ≤ j - p). omega arith) (λ (l : i + p ≤ j + o). omega arith))
+    go (yes h) (no n) = let k : j < p = lt-of-not-le n in rw (minus-down i o h, minus-up j p k) (sym (lt-leb (i + p) (j + o) (omega arith)))
+    go (no m) (yes k) = let h : i < o = lt-of-not-le m in rw (minus-up i o h, minus-down j p k) (sym (le-leb (i + p) (j + o) (omega arith)))
+    go (no m) (no n) =
+        let h : i < o = lt-of-not-le m in
+        let k : j < p = lt-of-not-le n in
+        rw (minus-up i o h, minus-up j p k) (leb-same (p - suc j) (o - suc i) (i + p) (j + o) (λ (l : p - suc j ≤ o - suc i). omega arith) (λ (l : i + p ≤ j + o). omega arith))
+
+-- equal differences
+pub minus-only : (i o j p : ℕ) → minus i o ≡ minus j p → i + p ≡ j + o
+minus-only i o j p h =
+    let one = minus-order i o i o ∙ le-leb (i + o) (i + o) (omega arith) in
+    le-antisymm
+    (leb-true (i + p) (j + o) (sym (minus-order i o j p) ∙ ap (λ (e : ℤ). leZ (minus i o) e) (sym h) ∙ one))
+    (leb-true (j + o) (i + p) (sym (minus-order j p i o) ∙ ap (λ (e : ℤ). leZ e (minus i o)) (sym h) ∙ one))
+
+-- a biased exponent less the bias
+pub less-bias : (b : ℕ) → pos b -ℤ pos 65535 ≡ minus b 65535
+less-bias b = sub-minus b 65535
+
+-- ---- is i - o working?
+
+working-test : (i o : ℕ) → isWorkingExponent (minus i o) ≡ leb o (i + 65535) && leb i (o + 65536)
+unfolding isWorkingExponent isBetween
+working-test i o =
+    ap₂ _&&_
+    (minus-order 0 65535 i o ∙ leb-same (0 + o) (i + 65535) o (i + 65535) (λ (l : 0 + o ≤ i + 65535). omega arith) (λ (l : o ≤ i + 65535). omega arith))
+    (minus-order i o 65536 0 ∙ leb-same (i + 0) (65536 + o) i (o + 65536) (λ (l : i + 0 ≤ 65536 + o). omega arith) (λ (l : i ≤ o + 65536). omega arith))
+
+pub working : (i o : ℕ) → o ≤ i + 65535 → i ≤ o + 65536 → isWorkingExponent (minus i o) ≡ true
+working i o a b = working-test i o ∙ rw (le-leb o (i + 65535) a, le-leb i (o + 65536) b)
 
 pub too-low : (i o : ℕ) → i + 65535 < o → isWorkingExponent (minus i o) ≡ false
-unfolding isWorkingExponent isBetween
-too-low i o h = rw (minus-up i o (omega arith), lt-leb (o - suc i) 65534 (omega arith))
+too-low i o h = working-test i o ∙ rw (lt-leb o (i + 65535) h)
 
 pub too-high : (i o : ℕ) → o + 65536 < i → isWorkingExponent (minus i o) ≡ false
-unfolding isWorkingExponent isBetween
-too-high i o h = rw (minus-down i o (omega arith)) (lt-leb (i - o) 65536 (omega arith))
+too-high i o h = working-test i o ∙ rw (lt-leb i (o + 65536) h, and-false (leb o (i + 65535)))
 
 pub working-range : (i o : ℕ) → isWorkingExponent (minus i o) ≡ true → (o ≤ i + 65535) × (i ≤ o + 65536)
-working-range i o h = (low (decLe o (i + 65535)), high (decLe i (o + 65536)))
-  where
-    apart : isWorkingExponent (minus i o) ≡ false → ⊥
-    apart k = let z : _≡_ {A = ℕ} 0 1 = cc in omega arith
-
-    low : Dec (o ≤ i + 65535) → o ≤ i + 65535
-    low (yes l) = l
-    low (no n) = absurd (apart (too-low i o (lt-of-not-le n)))
-
-    high : Dec (i ≤ o + 65536) → i ≤ o + 65536
-    high (yes l) = l
-    high (no n) = absurd (apart (too-high i o (lt-of-not-le n)))
+working-range i o h =
+    let both = and-eq-true-iff (leb o (i + 65535)) (leb i (o + 65536)) .0 (sym (working-test i o) ∙ h) in
+    (leb-true o (i + 65535) (both .0), leb-true i (o + 65536) (both .1))

@@ -1,24 +1,19 @@
--- Little-endian bytes: reading and writing undo each other, and a number in several parts. The bits above a code's significand have room.
--- Assumes nothing.
+-- Little-endian bytes: reading and writing undo each other, and a number in several parts.
 use mathlib.Core.Path.{_≡_, refl, sym, ap, _∙_}
-use mathlib.Core.Bool.{cond}
 use mathlib.Core.List.{List, [], _∷_, _++_, append-nil}
-use Prim.Native.Nat.{ℕ, zero, suc, _+_, _-_, _*_, _/_, _%_, _^_, _≤_, _<_, suc-le-suc}
+use Prim.Native.Nat.{ℕ, zero, suc, _+_, _-_, _*_, _/_, _%_, _^_, _≤_, _<_}
 use native.Mathlib.Nat.{suc-add, zero-add, add-sub-of-le, le-of-eq, mod-lt, div-one, div-div-eq-div-mul, pow-suc, pow-succ'}
 use native.Mathlib.Numerals.{add-one}
 use native.Mathlib.Omega.{arith}
-use lib.Arith.{digits-lt, digits-div}
+use lib.Arith.{digits-div}
 use lib.Dec.{lit<}
 use lib.ListN.{length, getD, take, drop, length-drop, take-append-drop, drop-of-length-le}
 use lib.Seq.{length-take-le, take-all, take-at, drop-at, drop-cons}
-use Rattle.numbers.specs.Codes.{exponentBits, littleEndian, bytesOf}
-use Rattle.numbers.specs.Layout.{IsCode, IsBytes}
-use Rattle.numbers.specs.declared.code.Code.{Code}
-use Rattle.numbers.specs.declared.code.Format.{Format}
-use Rattle.numbers.proofs.Laws.Fits.{at-most-one}
+use Rattle.numbers.specs.Codes.{littleEndian, bytesOf}
+use Rattle.numbers.specs.Layout.{IsBytes}
 
 -- the first byte and those after it
-pub bytes-tail : (b : ℕ) (bytes : List ℕ) → IsBytes (b ∷ bytes) → (b < 256) × IsBytes bytes
+bytes-tail : (b : ℕ) (bytes : List ℕ) → IsBytes (b ∷ bytes) → (b < 256) × IsBytes bytes
 unfolding IsBytes
 bytes-tail b bytes h = (h 0, (λ (i : ℕ). h (suc i)))
 
@@ -85,13 +80,13 @@ read-below n i w b h hb hw =
     rw (e, pow-succ' 256 (n - suc i)) (omega arith)
 
 -- the last bytes are bytes
-pub bytes-drop : (n : ℕ) (bytes : List ℕ) → IsBytes bytes → IsBytes (drop n bytes)
+bytes-drop : (n : ℕ) (bytes : List ℕ) → IsBytes bytes → IsBytes (drop n bytes)
 bytes-drop zero bytes h = h
 bytes-drop (suc n) [] h = h
 bytes-drop (suc n) (b ∷ bytes) h = bytes-drop n bytes (bytes-tail b bytes h .1)
 
 -- what the n lowest bytes do not hold has no effect on them
-pub bytes-low : (n v w : ℕ) → bytesOf n (v * 256 ^ n + w) ≡ bytesOf n w
+bytes-low : (n v w : ℕ) → bytesOf n (v * 256 ^ n + w) ≡ bytesOf n w
 unfolding bytesOf
 bytes-low zero v w = refl
 bytes-low (suc n) v w =
@@ -137,7 +132,3 @@ module _ (n m : ℕ) (h : n ≤ m) (bytes : List ℕ) (count : length bytes ≡ 
       let none : drop (length all - n) (drop n all) ≡ [] = drop-of-length-le (drop n all) (le-of-eq (length-drop n all)) in
       let halves = bytes-append n (m - n) (high * 256 ^ n + low) in
       rw (front, back, none, append-nil) (sym (rw (add-sub-of-le h, bytes-low, digits-div high small) at halves))
-
--- the sign and the field of a code, which stand above its significand, have one bit more than the field
-pub upper-below : (f : Format) (c : Code) (sign : ℕ) → IsCode f c → sign ≡ cond (c .negative) 1 0 → sign * 2 ^ exponentBits f + c .field < 2 * 2 ^ exponentBits f
-upper-below f c sign h e = digits-lt (rw e (suc-le-suc (at-most-one (c .negative)))) (h .field-fits)

@@ -25,8 +25,9 @@ use Rattle.numbers.proofs.Laws.Bias.{working}
 use Rattle.numbers.proofs.Laws.Bytes.{little-endian-below, little-endian-bytes, bytes-little-endian, bytes-length, bytes-are}
 use Rattle.numbers.proofs.Laws.Decoded.{normalized-equal, normalized-working, normalized-shift, normalized-zero, encoded-equal}
 use Rattle.numbers.proofs.Laws.Exponent.{minus-same}
-use Rattle.numbers.proofs.Laws.Parts.{IsPlaced, split-code, join-below, join-split, split-join, canonical-parts, not-above, all-ones, placed-code, code-placed, equal-code}
-use Rattle.numbers.proofs.Laws.Places.{place-normal, place-below}
+use Rattle.numbers.proofs.Laws.Packed.{IsPlaced, placed-code, code-placed, equal-code}
+use Rattle.numbers.proofs.Laws.Parts.{split-code, join-below, join-split, split-join, canonical-parts, all-ones, judged-given}
+use Rattle.numbers.proofs.Laws.Places.{place-normal, place-below, not-above}
 use Rattle.numbers.proofs.Laws.Powers.{top-bit, pow-below, word-parts, word-power}
 use Rattle.numbers.proofs.Laws.Words.{raised}
 
@@ -129,23 +130,22 @@ pub record IsReading (f : Format) (bytes : List ℕ) (x : Number) : Type 0 where
   pub number : normalized (decoded f (split f (littleEndian bytes))) ≡ x
 
 pub given-parts : (f : Format) (bytes : List ℕ) (x : Number) → IsFormat f → readingOf f bytes ≡ given x → IsReading f bytes x
-unfolding readingOf judgedCode
-given-parts f bytes x formed h = go (eqb (length bytes) (f .length)) (eqb (c .field) (allOnes f)) (isCanonical f c) refl refl refl h
+unfolding readingOf
+given-parts f bytes x formed h = go (eqb (length bytes) (f .length)) refl h
   where
     c : Code
     c = split f (littleEndian bytes)
 
-    go : (l a k : Bool) → eqb (length bytes) (f .length) ≡ l → eqb (c .field) (allOnes f) ≡ a → isCanonical f c ≡ k
-        → cond (not l) (refused 9) (cond a (refused 10) (cond (not k) (refused 11) (given (normalized (decoded f c))))) ≡ given x → IsReading f bytes x
-    go true false true l a k m = record {
-      long = eqb-true (length bytes) (f .length) l;
-      placed = code-placed f c (split-code f (littleEndian bytes) formed) a k;
-      canonical = k;
-      number = let same : normalized (decoded f c) ≡ x = cc in same;
-    }
-    go true false false l a k m = absurd (let z : _≡_ {A = ℕ} 0 1 = cc in omega arith)
-    go true true b l a k m = absurd (let z : _≡_ {A = ℕ} 0 1 = cc in omega arith)
-    go false b d l a k m = absurd (let z : _≡_ {A = ℕ} 0 1 = cc in omega arith)
+    go : (l : Bool) → eqb (length bytes) (f .length) ≡ l → cond (not l) (refused 9) (judgedCode f c (normalized (decoded f c))) ≡ given x → IsReading f bytes x
+    go true l m =
+        let judged = judged-given f c x (normalized (decoded f c)) m in
+        record {
+          long = eqb-true (length bytes) (f .length) l;
+          placed = code-placed f c (split-code f (littleEndian bytes) formed) (judged .0) (judged .1);
+          canonical = judged .1;
+          number = judged .2;
+        }
+    go false l m = absurd (let z : _≡_ {A = ℕ} 0 1 = cc in omega arith)
 
 -- the number of a code that is read, and the code that equals it
 comes-back : (f : Format) (bytes : List ℕ) (x : Number) → IsFormat f → readingOf f bytes ≡ given x → (isWorking x ≡ true) × (equalCode f x ≡ some (split f (littleEndian bytes)))

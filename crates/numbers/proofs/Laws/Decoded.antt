@@ -1,21 +1,20 @@
 -- A number normalized: the fit number of the same value, if there is one. And a number cut to a code's bits: it equals the code where no set bit
 -- was cut off.
 use mathlib.Core.Path.{_≡_, refl, sym, ap, _∙_}
-use mathlib.Core.Bool.{Bool, true, false, cond, and-eq-true-iff}
+use mathlib.Core.Bool.{Bool, true, false, cond}
 use Prim.Native.Nat.{ℕ, _+_, _-_, _*_, _/_, _%_, _^_, _≤_, _<_}
 use native.Mathlib.Decide.{decLe}
-use native.Mathlib.Nat.{div-add-mod', eq-of-mul-eq-mul-right, le-antisymm, lt-of-not-le, mul-pos}
+use native.Mathlib.Nat.{div-add-mod', eq-of-mul-eq-mul-right, lt-of-not-le, mul-pos}
 use native.Mathlib.Omega.{arith}
 use lib.Dec.{eqb, lit≤}
 use lib.Ieee.{minus, up, down}
 use lib.Ieee.Digits.{minus-val}
 use lib.Ieee.Fits.{down-pos}
-use lib.IntN.{ℤ, pos, negsuc, natAbs, _*ℤ_}
+use lib.IntN.{ℤ, natAbs}
 use lib.Pow.{pow-add, pow-pos}
-use lib.Signed.{leZ}
-use borrow.Author.Tests.{leb-true, le-leb, eqb-true, eq-eqb, ne-eqb}
+use borrow.Author.Tests.{eqb-true, eq-eqb, ne-eqb}
 use Rattle.numbers.specs.Codes.{normalized, decoded, encoded, belowNormal}
-use Rattle.numbers.specs.Fraction.{Fraction, Equal, signed, value, isEqual}
+use Rattle.numbers.specs.Fraction.{Equal, signed, value, isEqual}
 use Rattle.numbers.specs.Layout.{IsFormat, IsCode}
 use Rattle.numbers.specs.Number.{isWorkingExponent, isWorking}
 use Rattle.numbers.specs.Rounding.{round}
@@ -27,10 +26,12 @@ use Rattle.numbers.specs.declared.task.Mode.the-variants.{Trunc}
 use Rattle.numbers.proofs.Laws.Bias.{biased-working}
 use Rattle.numbers.proofs.Laws.Bounds.{kept-number}
 use Rattle.numbers.proofs.Laws.Exponent.{minus-same}
+use Rattle.numbers.proofs.Laws.Fractions.{equal-test, equal-passes}
 use Rattle.numbers.proofs.Laws.Operands.{working-parts}
 use Rattle.numbers.proofs.Laws.Places.{place-normal, place-below}
 use Rattle.numbers.proofs.Laws.Rounded.{value-fraction}
 use Rattle.numbers.proofs.Laws.Signs.{abs-signed, signed-times}
+use Rattle.numbers.proofs.Laws.Tests.{one-test}
 use Rattle.numbers.proofs.Laws.Value.{value-alone, equal-magnitudes}
 
 -- ---- values of two exponents
@@ -102,36 +103,6 @@ pub normalized-zero : (s : Bool) (e : ℤ) → normalized (Finite s e 0) ≡ Zer
 unfolding normalized round value
 normalized-zero s e = let none : natAbs (signed s (0 * up e)) ≡ 0 = abs-signed s (0 * up e) ∙ omega arith in rw none
 
--- ---- the test of two fractions
-
-order-both : (a b : ℤ) → leZ a b ≡ true → leZ b a ≡ true → a ≡ b
-order-both (pos a) (pos b) h k = ap pos (le-antisymm (leb-true a b h) (leb-true b a k))
-order-both (pos a) (negsuc b) h k = absurd (let z : _≡_ {A = ℕ} 0 1 = cc in omega arith)
-order-both (negsuc a) (pos b) h k = absurd (let z : _≡_ {A = ℕ} 0 1 = cc in omega arith)
-order-both (negsuc a) (negsuc b) h k = ap negsuc (le-antisymm (leb-true a b k) (leb-true b a h))
-
-order-same : (a : ℤ) → leZ a a ≡ true
-order-same (pos a) = le-leb a a (omega arith)
-order-same (negsuc a) = le-leb a a (omega arith)
-
-pub equal-test : (x y : Fraction) → isEqual x y ≡ true → Equal x y
-unfolding isEqual Equal
-equal-test x y h =
-    let a = x .numerator *ℤ pos (y .denominator) in
-    let b = y .numerator *ℤ pos (x .denominator) in
-    let both = and-eq-true-iff (leZ a b) (leZ b a) .0 h in
-    order-both a b (both .0) (both .1)
-
-pub equal-passes : (x y : Fraction) → Equal x y → isEqual x y ≡ true
-unfolding isEqual Equal
-equal-passes x y h = let same = order-same (y .numerator *ℤ pos (x .denominator)) in rw (h, same)
-
--- two tests that hold together are one
-one-test : (a b : Bool) → (a ≡ true → b ≡ true) → (b ≡ true → a ≡ true) → a ≡ b
-one-test true b h k = sym (h refl)
-one-test false true h k = k refl
-one-test false false h k = refl
-
 -- ---- the exponent of a code: field 0 counts as field 1
 
 pub counted-most : (f : Format) (c : Code) → IsFormat f → IsCode f c → cond (eqb (c .field) 0) 1 (c .field) ≤ 2 * f .bias + 1
@@ -144,8 +115,8 @@ counted-most f c formed fits = go (eqb (c .field) 0)
 -- ---- a number cut to the bits of a code
 
 -- S, cut by q and moved back, is S where nothing is cut off
-cut-back : (S q : ℕ) → S % q ≡ 0 → S / q * q ≡ S
-cut-back S q h = omega (arith, div-add-mod' S q)
+uncut : (S q : ℕ) → S % q ≡ 0 → S / q * q ≡ S
+uncut S q h = omega (arith, div-add-mod' S q)
 
 -- the exponent of the code is that of the number, or the lowest one
 pub encoded-exponent : (f : Format) (s : Bool) (b S : ℕ) → IsFormat f → decoded f (encoded f s (minus b 65535) S) ≡ Finite s (minus (b + belowNormal f (minus b 65535)) 65535) (S / 2 ^ (belowNormal f (minus b 65535) + (64 - f .precision)) * 2 ^ (64 - f .precision))
@@ -192,6 +163,6 @@ encoded-equal f s e S formed working = let w = biased-working e working in rw (w
 
         back : eqb (S % q) 0 ≡ true → isEqual (value code) (value (Finite s (minus b 65535) S)) ≡ true
         back h =
-            let whole : S / q * q ≡ S = cut-back S q (eqb-true (S % q) 0 h) in
+            let whole : S / q * q ≡ S = uncut S q (eqb-true (S % q) 0 h) in
             equal-passes (value code) (value (Finite s (minus b 65535) S))
             (same-value s (S / q * 2 ^ (64 - f .precision)) S (b + k) b 65535 (moved ∙ ap (λ (n : ℕ). n * 2 ^ b) whole))

@@ -1,4 +1,4 @@
--- What the entries that read and write codes owe, over any format: each way out of their code is a row of the definition.
+-- What the entries that read and write codes owe, over any format: each way out of the program is a row of the definition.
 use mathlib.Core.Path.{_≡_, sym, ap, _∙_}
 use mathlib.Core.Bool.{Bool, true, false}
 use mathlib.Core.List.{List}
@@ -16,9 +16,10 @@ use Rattle.numbers.specs.declared.code.Reading.{Reading}
 use Rattle.numbers.specs.declared.code.Reading.the-variants as read
 use Rattle.numbers.specs.declared.code.Writing.the-variants as write
 use Rattle.numbers.specs.declared.number.Number.{Number}
-use Rattle.numbers.proofs.Laws.Parts.{split-code, equal-code-fits}
+use Rattle.numbers.proofs.Laws.Packed.{equal-code-fits}
+use Rattle.numbers.proofs.Laws.Parts.{split-code}
 
--- ---- reading; `held` is the format as the code has it
+-- ---- reading; `held` is the format as the program has it
 
 module _ (f : Format) (bytes : List ℕ) where
   pub read-wrong-length : (length bytes ≡ f .length → ⊥) → reading read.WrongLength ≡ readingOf f bytes

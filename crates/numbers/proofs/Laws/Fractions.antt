@@ -1,13 +1,15 @@
--- The exact sum and product of fractions depend on their values alone, and what they are over one denominator.
+-- The exact sum and product of fractions depend on their values alone, and what they are over one denominator; and the test of equal fractions.
 use mathlib.Core.Path.{_≡_, refl, sym, ap, ap₂, _∙_}
-use mathlib.Core.Bool.{Bool, true, false, not, Bool·not-not}
+use mathlib.Core.Bool.{Bool, true, false, not, Bool·not-not, and-eq-true-iff}
 use Prim.Native.Nat.{ℕ, zero, suc, _+_, _-_, _*_, _≤_, _<_}
 use native.Mathlib.Decide.{decLe}
-use native.Mathlib.Nat.{zero-mul, le-of-lt, lt-of-not-le, add-mul, mul-comm, mul-assoc, mul-sub, mul-le-mul-right, mul-pos}
+use native.Mathlib.Nat.{zero-mul, le-antisymm, le-of-lt, lt-of-not-le, add-mul, mul-comm, mul-assoc, mul-sub, mul-le-mul-right, mul-pos}
 use native.Mathlib.Omega.{arith}
 use lib.Ieee.{unlike}
 use lib.IntN.{ℤ, pos, negsuc, negℤ, negℤ-negℤ, natAbs, +ℤ-comm, *ℤ-negsuc, _+ℤ_, _*ℤ_}
-use Rattle.numbers.specs.Fraction.{Fraction, IsFraction, Equal, signed, sum, product, dividedBy, quotient}
+use lib.Signed.{leZ}
+use borrow.Author.Tests.{leb-true, le-leb}
+use Rattle.numbers.specs.Fraction.{Fraction, IsFraction, Equal, isEqual, signed, sum, product, dividedBy, quotient}
 use Rattle.numbers.specs.Rounding.{isNegative}
 use Rattle.numbers.proofs.Laws.Signs.{signed-abs, signed-times, negative-product, same-sign, other-sign}
 use Rattle.numbers.proofs.Laws.Value.{equal-magnitudes, equal-signs}
@@ -151,3 +153,27 @@ quotient-product x y = go (y .numerator) refl
     go (negsuc q) e =
         ap (λ (z : ℤ). z *ℤ pos (x .denominator)) (two-turns (x .numerator *ℤ pos (y .denominator)) q)
         ∙ level (y .denominator) (x .denominator) (suc q) (x .numerator)
+
+-- ---- the test of two fractions: it passes exactly where they are equal
+
+order-both : (a b : ℤ) → leZ a b ≡ true → leZ b a ≡ true → a ≡ b
+order-both (pos a) (pos b) h k = ap pos (le-antisymm (leb-true a b h) (leb-true b a k))
+order-both (pos a) (negsuc b) h k = absurd (let z : _≡_ {A = ℕ} 0 1 = cc in omega arith)
+order-both (negsuc a) (pos b) h k = absurd (let z : _≡_ {A = ℕ} 0 1 = cc in omega arith)
+order-both (negsuc a) (negsuc b) h k = ap negsuc (le-antisymm (leb-true a b k) (leb-true b a h))
+
+order-same : (a : ℤ) → leZ a a ≡ true
+order-same (pos a) = le-leb a a (omega arith)
+order-same (negsuc a) = le-leb a a (omega arith)
+
+pub equal-test : (x y : Fraction) → isEqual x y ≡ true → Equal x y
+unfolding isEqual Equal
+equal-test x y h =
+    let a = x .numerator *ℤ pos (y .denominator) in
+    let b = y .numerator *ℤ pos (x .denominator) in
+    let both = and-eq-true-iff (leZ a b) (leZ b a) .0 h in
+    order-both a b (both .0) (both .1)
+
+pub equal-passes : (x y : Fraction) → Equal x y → isEqual x y ≡ true
+unfolding isEqual Equal
+equal-passes x y h = let same = order-same (y .numerator *ℤ pos (x .denominator)) in rw (h, same)

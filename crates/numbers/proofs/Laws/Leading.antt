@@ -1,15 +1,19 @@
--- The leading one of a significand, which a code stores or not: with it the stored bits have room, and storing them drops it again.
+-- The bits of a code: the leading one, stored or not, with which the stored bits have room, and which storing them drops again; and the sign and the
+-- field above them.
 use mathlib.Core.Path.{_≡_, _∙_}
-use Prim.Native.Nat.{ℕ, zero, suc, _+_, _-_, _*_, _%_, _^_, _≤_, _<_}
+use Prim.Native.Nat.{ℕ, zero, suc, _+_, _-_, _*_, _%_, _^_, _≤_, _<_, suc-le-suc}
 use native.Mathlib.Decide.{decLe}
 use native.Mathlib.Nat.{add-zero, add-mod-right, lt-of-lt-of-le, lt-of-not-le, mod-eq-of-lt, mod-eq-sub-mod, pow-succ'}
 use native.Mathlib.Omega.{arith}
 use borrow.Author.Tests.{leb-true, leb-false, le-ltb, lt-ltb}
+use lib.Arith.{digits-lt}
 use lib.Dec.{leb, ltb}
 use lib.Pow.{pow-mono}
-use Rattle.numbers.specs.Codes.{leadingOne}
-use Rattle.numbers.specs.Layout.{IsFormat}
+use Rattle.numbers.specs.Codes.{exponentBits, leadingOne, signBit}
+use Rattle.numbers.specs.Layout.{IsFormat, IsCode}
+use Rattle.numbers.specs.declared.code.Code.{Code}
 use Rattle.numbers.specs.declared.code.Format.{Format}
+use Rattle.numbers.proofs.Laws.Fits.{at-most-one}
 use Rattle.numbers.proofs.Laws.Powers.{power-twice}
 
 -- the leading one is stored, or is that of no normal number, or is put above the stored bits
@@ -59,3 +63,7 @@ leading-back f field S formed h t = go (decLe (f .precision) (f .stored)) field 
         let low : 2 ^ f .stored ≤ S = rw e at (leb-true (2 ^ (f .precision - 1)) S (t ∙ lt-ltb 0 (suc m) (omega arith))) in
         let high : S < 2 * 2 ^ f .stored = rw (power-twice (f .precision) (formed .some-bits), e) at h in
         rw (leading-above f m l, mod-eq-sub-mod low, mod-eq-of-lt (let k : S - 2 ^ f .stored < 2 ^ f .stored = omega arith in k)) (omega arith)
+
+-- the sign and the field of a code, which stand above its significand, have one bit more than the field
+pub upper-below : (f : Format) (c : Code) (sign : ℕ) → IsCode f c → sign ≡ signBit (c .negative) → sign * 2 ^ exponentBits f + c .field < 2 * 2 ^ exponentBits f
+upper-below f c sign h e = digits-lt (rw e (suc-le-suc (at-most-one (c .negative)))) (h .field-fits)

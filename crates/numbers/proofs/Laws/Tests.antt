@@ -1,5 +1,6 @@
 -- Two tests are the same where each one's fact gives the other's.
 use mathlib.Core.Path.{_≡_, refl, sym, _∙_}
+use mathlib.Core.Bool.{Bool, true, false}
 use Prim.Native.Nat.{ℕ, zero, suc, _≤_, _<_}
 use native.Mathlib.Omega.{arith}
 use native.Mathlib.Decide.{decLe, ℕ-discrete}
@@ -30,3 +31,9 @@ zero-same zero zero e = refl
 zero-same zero (suc y) e = absurd (omega (arith, ltb-true 0 0 (e ∙ lt-ltb 0 (suc y) (omega arith))))
 zero-same (suc x) zero e = absurd (omega (arith, ltb-true 0 0 (sym e ∙ lt-ltb 0 (suc x) (omega arith))))
 zero-same (suc x) (suc y) e = ne-eqb (suc x) 0 (λ (k : suc x ≡ 0). omega arith) ∙ sym (ne-eqb (suc y) 0 (λ (k : suc y ≡ 0). omega arith))
+
+-- two tests that hold together are one
+pub one-test : (a b : Bool) → (a ≡ true → b ≡ true) → (b ≡ true → a ≡ true) → a ≡ b
+one-test true b h k = sym (h refl)
+one-test false true h k = k refl
+one-test false false h k = refl

@@ -1,5 +1,4 @@
 -- Magnitudes of two words of 64 bits: their sums, and what they tell of their words.
--- Assumes nothing.
 use mathlib.Core.Path.{_≡_}
 use Prim.Native.Nat.{ℕ, _+_, _*_, _^_, _≤_, _<_}
 use native.Mathlib.Omega.{arith}

@@ -1,4 +1,4 @@
--- `known::buffer::fill` is safe and ends: the measure is how many bytes are left to fill. Assumes nothing.
+-- `known::buffer::fill` is safe and ends: the measure is how many bytes are left to fill.
 use Prim.Native.Nat.{_-_}
 use mathlib.Core.Path.{_≡_}
 use lib.ListN.{length}

@@ -1,4 +1,4 @@
--- `known::buffer::length` is safe and ends: the measure is how many more bytes a buffer may have. Assumes nothing.
+-- `known::buffer::length` is safe and ends: the measure is how many more bytes a buffer may have.
 use Prim.Native.Nat.{_-_, _≤_}
 use borrow.Author.Needs.{needs}
 use Rattle.known.proofs.buffer.length.Statement.{statement}

@@ -1,4 +1,4 @@
--- `known::buffer::print` is safe and ends: the measure is how many bytes are left to print. Assumes nothing.
+-- `known::buffer::print` is safe and ends: the measure is how many bytes are left to print.
 use Prim.Native.Nat.{_-_}
 use lib.ListN.{length}
 use borrow.Author.Needs.{needs}

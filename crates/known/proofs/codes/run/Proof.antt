@@ -1,4 +1,4 @@
--- `known::codes::run` is safe: the part of the array that is lent has the length found in the line. Assumes nothing.
+-- `known::codes::run` is safe: the part of the array that is lent has the length found in the line.
 use mathlib.Core.Path.{sym}
 use lib.Seq.{length-take-le}
 use borrow.Author.Needs.{needs}

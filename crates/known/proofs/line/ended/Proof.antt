@@ -1,4 +1,4 @@
--- `known::line::ended` is safe and ends: the measure is what is left of the line before its last byte. Assumes nothing.
+-- `known::line::ended` is safe and ends: the measure is what is left of the line before its last byte.
 use Prim.Native.Nat.{_-_}
 use borrow.Author.Needs.{needs}
 use Rattle.known.proofs.line.ended.Statement.{statement}

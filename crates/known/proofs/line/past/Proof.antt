@@ -1,4 +1,4 @@
--- `known::line::past` is safe and ends: the measure is how many bytes are left to compare. Assumes nothing.
+-- `known::line::past` is safe and ends: the measure is how many bytes are left to compare.
 use Prim.Native.Nat.{_-_}
 use lib.ListN.{length}
 use borrow.Author.Needs.{needs}

@@ -1,4 +1,4 @@
--- `known::line::read_decimal` is safe and ends: the measure is what is left of the line. Assumes nothing.
+-- `known::line::read_decimal` is safe and ends: the measure is what is left of the line.
 use Prim.Native.Nat.{_-_}
 use borrow.Author.Needs.{needs}
 use Rattle.known.proofs.line.read_decimal.Statement.{statement}

@@ -1,4 +1,4 @@
--- `known::line::read_sixteen_digits` is safe and ends: the measure is how many digits are left. Assumes nothing.
+-- `known::line::read_sixteen_digits` is safe and ends: the measure is how many digits are left.
 use borrow.Author.Needs.{needs}
 use Rattle.known.proofs.line.read_sixteen_digits.Statement.{statement}
 use Rattle.known.proofs.line.read_sixteen_digits.Tie as tie

@@ -1,5 +1,5 @@
 -- `known::signed::magnitude` is safe. The complement of a negative exponent's bits is its magnitude less one, and an exponent that is
--- not negative is its own magnitude: neither cast meets a negative number. Assumes nothing.
+-- not negative is its own magnitude: neither cast meets a negative number.
 use Prim.Native.Nat.{ℕ, suc, _-_, _<_}
 use mathlib.Core.Bool.{true, false}
 use mathlib.Core.Path.{_≡_, _∙_, ap, refl}

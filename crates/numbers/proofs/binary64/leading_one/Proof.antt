@@ -1,5 +1,4 @@
 -- `numbers::binary64::leading_one` meets its contract, by the test of the field.
--- Assumes nothing.
 use borrow.Author.Tests.{lt-ltb, le-ltb}
 use Rattle.numbers.specs.Codes.{binary64, leadingOne}
 use Rattle.numbers.proofs.binary64.leading_one.Statement.{statement}

@@ -1,5 +1,4 @@
 -- `numbers::decode::counted` meets its contract, by the test of the field.
--- Assumes nothing.
 use borrow.Author.Tests.{eq-eqb, ne-eqb}
 use Rattle.numbers.proofs.decode.counted.Statement.{statement}
 use Rattle.numbers.proofs.decode.counted.Tie as tie

@@ -19,7 +19,7 @@ use Rattle.numbers.specs.Number.{isBetween, isFit, isWorkingExponent, is
 use Rattle.numbers.specs.declared.number.Number.{Number}
 use Rattle.numbers.specs.declared.number.Number.the-variants.{Zero, Finite}
 use Rattle.numbers.proofs.Laws.Decoded.{normalized-working, normalized-shift, normalized-zero}
-use Rattle.numbers.proofs.Laws.Places.{minus-order}
+use Rattle.numbers.proofs.Laws.Bias.{minus-order}
 use Rattle.numbers.proofs.Laws.Words.{raised}
 use Rattle.numbers.proofs.decode.normalize.Statement.{statement}
 use Rattle.numbers.proofs.decode.normalize.Tie as tie

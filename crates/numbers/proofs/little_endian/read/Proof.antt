@@ -1,5 +1,4 @@
 -- `numbers::little_endian::read` meets its contract. The loop goes down: w is the number in the bytes from index i on, so it is below 256 to the power of their count.
--- Assumes nothing.
 use borrow.Author.Needs.{needs}
 use mathlib.Core.Path.{_≡_, refl, ap, _∙_}
 use mathlib.Core.List.{List}

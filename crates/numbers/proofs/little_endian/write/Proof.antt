@@ -1,5 +1,4 @@
 -- `numbers::little_endian::write` meets its contract. The loop goes up: the first i bytes are those of w, and `left` is what they do not hold.
--- Assumes nothing.
 use borrow.Author.Needs.{needs}
 use mathlib.Core.Path.{_≡_, refl, sym, ap, _∙_}
 use mathlib.Core.List.{List}

@@ -44,9 +44,9 @@ turned (negsuc a) (negsuc b) = natural (decLe a b)
     natural (yes h) = rw (le-leb a b h, le-ltb b a h)
     natural (no n) = let h : b < a = lt-of-not-le n in rw (lt-leb a b h, lt-ltb b a h)
 
-zero-code : (f : Format) (x : Number) → x ≡ Zero → packing (Code (record { negative = false; field = 0; significand = 0 })) ≡ equalCode f x
+zero-packs : (f : Format) (x : Number) → x ≡ Zero → packing (Code (record { negative = false; field = 0; significand = 0 })) ≡ equalCode f x
 unfolding packing equalCode
-zero-code f x is = rw is
+zero-packs f x is = rw is
 
 module _ (f : Format) (formed : IsFormat f) where
   highest-fits : SFits w32 (f .highest)
@@ -97,7 +97,7 @@ enum-told : tie.Need-enum-told
 enum-told c = search needs
 
 returns : tie.Need-returns
-returns c = zero-code _ _ (c .enum-told .given .1)
+returns c = zero-packs _ _ (c .enum-told .given .1)
 
 returns-2 : tie.Need-returns-2
 returns-2 c =

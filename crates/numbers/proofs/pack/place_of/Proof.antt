@@ -13,8 +13,8 @@ use Rattle.numbers.specs.Codes.{fieldOf, belowNormal}
 use Rattle.numbers.specs.Layout.{IsFormat}
 use Rattle.numbers.specs.Number.{isWorkingExponent}
 use Rattle.numbers.specs.declared.code.Format.{Format}
-use Rattle.numbers.proofs.Laws.Bias.{minus-small, working}
-use Rattle.numbers.proofs.Laws.Places.{minus-only, place-normal, place-below}
+use Rattle.numbers.proofs.Laws.Bias.{minus-small, minus-only, working}
+use Rattle.numbers.proofs.Laws.Places.{place-normal, place-below}
 use Rattle.numbers.proofs.pack.place_of.Statement.{statement}
 use Rattle.numbers.proofs.pack.place_of.Tie as tie
 

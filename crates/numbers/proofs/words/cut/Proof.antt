@@ -1,5 +1,4 @@
 -- `numbers::words::cut` meets its contract. The bits that a cut drops are those that the shift left by the rest of the word keeps.
--- Assumes nothing.
 use borrow.Author.Needs.{needs}
 use mathlib.Core.Path.{refl}
 use native.Mathlib.Nat.{le-of-lt, lt-of-lt-of-le}

@@ -1,5 +1,4 @@
 -- `numbers::words::difference` meets its contract. The low words borrow 1 from the high ones where a's is below b's.
--- Assumes nothing.
 use borrow.Author.Needs.{needs}
 use native.Mathlib.Nat.{sub-pos-iff-lt}
 use native.Mathlib.Omega.{arith}

@@ -1,5 +1,4 @@
 -- `numbers::words::leading_zeros` meets its contract. The top bit of a magnitude is that of its high word, or of its low word where the high one is 0.
--- Assumes nothing.
 use Prim.Native.Nat.{_+_}
 use native.Mathlib.Nat.{pos-of-ne-zero}
 use native.Mathlib.Omega.{arith}

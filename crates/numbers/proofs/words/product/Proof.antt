@@ -1,5 +1,4 @@
 -- `numbers::words::product` meets its contract. Each product of two halves leaves room for two carries, so no column wraps, and the columns make up the product.
--- Assumes nothing.
 use borrow.Author.Needs.{needs}
 use mathlib.Core.Path.{ap₂}
 use Prim.Native.Nat.{ℕ, _+_, _*_, _/_, _%_, _^_, _≤_, _<_}

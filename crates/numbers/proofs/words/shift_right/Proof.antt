@@ -1,5 +1,4 @@
 -- `numbers::words::shift_right` meets its contract. What is dropped is what the cut of one word drops, and the whole low word where the shift is by a word or more.
--- Assumes nothing.
 use borrow.Author.Needs.{needs}
 use native.Mathlib.Nat.{le-of-lt}
 use mir.Facts.{fits-of-lt}

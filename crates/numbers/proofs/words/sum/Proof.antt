@@ -1,5 +1,4 @@
 -- `numbers::words::sum` meets its contract. The low words carry 1 where their wrapped sum is below one of them.
--- Assumes nothing.
 use borrow.Author.Needs.{needs}
 use mathlib.Core.Path.{refl, sym}
 use native.Mathlib.Nat.{add-zero}

@@ -1,5 +1,4 @@
 -- `numbers::binary64::Binary64::format` meets its contract: the constants are those of the definition.
--- Assumes nothing.
 use borrow.Author.Needs.{needs}
 use mathlib.Core.Path.{refl}
 use Rattle.numbers.specs.Codes.{binary64}

@@ -1,10 +1,9 @@
 -- `numbers::binary64::Binary64::from_parts` meets its contract. The sign is at most 1 and the field below 2^11, so no product or sum overflows.
--- Assumes nothing.
 use borrow.Author.Needs.{needs}
 use Prim.Native.Nat.{_+_, _*_, _<_}
 use native.Mathlib.Omega.{arith}
 use Rattle.numbers.specs.Codes.{binary64, exponentBits, join}
-use Rattle.numbers.proofs.Laws.Bytes.{upper-below}
+use Rattle.numbers.proofs.Laws.Leading.{upper-below}
 use Rattle.numbers.proofs.binary64.Binary64.from_parts.Statement.{statement}
 use Rattle.numbers.proofs.binary64.Binary64.from_parts.Tie as tie
 

@@ -1,5 +1,4 @@
 -- `numbers::binary64::Binary64::parts` meets its contract: quotients and remainders by powers of two take the bits apart.
--- Assumes nothing.
 use borrow.Author.Needs.{needs}
 use mathlib.Core.Path.{_≡_}
 use mathlib.Core.Bool.{Bool, true, false, cond}

@@ -1,5 +1,4 @@
 -- `numbers::binary64::Binary64::write_bytes` meets its contract: as many bytes are filled as there are.
--- Assumes nothing.
 use borrow.Author.Needs.{needs}
 use Rattle.numbers.proofs.binary64.Binary64.write_bytes.Statement.{statement}
 use Rattle.numbers.proofs.binary64.Binary64.write_bytes.Tie as tie

@@ -1,5 +1,4 @@
 -- `numbers::double_extended::DoubleExtended::format` meets its contract: the constants are those of the definition.
--- Assumes nothing.
 use mathlib.Core.Path.{refl}
 use Rattle.numbers.specs.Codes.{doubleExtended}
 use Rattle.numbers.proofs.double_extended.DoubleExtended.format.Statement.{statement}

@@ -1,5 +1,4 @@
 -- `numbers::double_extended::DoubleExtended::from_bytes` meets its contract. The first eight bytes are the significand, and the two that follow hold a number below 2^16.
--- Assumes nothing.
 use borrow.Author.Needs.{needs}
 use mathlib.Core.Path.{sym}
 use Prim.Native.Nat.{ℕ}

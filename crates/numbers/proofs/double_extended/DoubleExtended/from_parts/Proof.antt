@@ -1,12 +1,11 @@
 -- `numbers::double_extended::DoubleExtended::from_parts` meets its contract. The sign is at most 1 and the field below 2^15, so no product or sum overflows.
--- Assumes nothing.
 use borrow.Author.Needs.{needs}
 use Prim.Native.Nat.{_+_, _*_, _<_}
 use native.Mathlib.Nat.{mod-eq-of-lt}
 use native.Mathlib.Omega.{arith}
 use Rattle.numbers.specs.Codes.{doubleExtended, exponentBits, join}
 use Rattle.numbers.specs.Words.{wide}
-use Rattle.numbers.proofs.Laws.Bytes.{upper-below}
+use Rattle.numbers.proofs.Laws.Leading.{upper-below}
 use Rattle.numbers.proofs.double_extended.DoubleExtended.from_parts.Statement.{statement}
 use Rattle.numbers.proofs.double_extended.DoubleExtended.from_parts.Tie as tie
 

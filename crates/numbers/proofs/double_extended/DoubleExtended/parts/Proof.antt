@@ -1,5 +1,4 @@
 -- `numbers::double_extended::DoubleExtended::parts` meets its contract: the significand is a word, and the field and the sign are the parts of `upper`.
--- Assumes nothing.
 use borrow.Author.Needs.{needs}
 use mathlib.Core.Path.{_≡_, sym}
 use Prim.Native.Nat.{ℕ, _/_, _%_, _^_, _<_}

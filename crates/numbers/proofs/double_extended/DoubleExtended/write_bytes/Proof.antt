@@ -1,5 +1,4 @@
 -- `numbers::double_extended::DoubleExtended::write_bytes` meets its contract. The significand fills the first eight bytes, and `upper` the two that follow.
--- Assumes nothing.
 use borrow.Author.Needs.{needs}
 use mathlib.Core.Path.{refl, sym}
 use lib.Dec.{lit≤}

@@ -109,10 +109,11 @@ belowNormal f e = cond (leZ (f .lowest) e) 0 (natAbs (f .lowest -ℤ e))
 unfoldable pub encoded : Format → Bool → ℤ → ℕ → Code
 encoded f negative e S = record { negative = negative; field = fieldOf f e; significand = S / 2 ^ (belowNormal f e + (64 - f .precision)) }
 
--- the code that equals a working number, if there is one
+-- the code of zero
 abbrev pub zeroCode : Code
 zeroCode = record { negative = false; field = 0; significand = 0 }
 
+-- The code that equals a working number, if there is one: `written-equal` shows that none is missed.
 unfoldable pub equalCode : Format → Number → Option Code
 equalCode f Zero = some zeroCode
 equalCode f (Finite negative e S) =

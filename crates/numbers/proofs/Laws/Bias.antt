@@ -1,5 +1,5 @@
 -- Exponents as differences i - o of natural numbers: added, subtracted, compared; the biased form of a working one; and the test of i and o that says
--- whether i - o is working.
+-- whether i - o is working or admissible.
 use mathlib.Core.Path.{_≡_, refl, sym, ap, ap₂, _∙_}
 use mathlib.Core.Bool.{true, false, _&&_, and-false, and-eq-true-iff}
 use Prim.Native.Nat.{ℕ, zero, suc, _+_, _-_, _≤_, _<_}
@@ -11,7 +11,7 @@ use lib.Ieee.{minus}
 use lib.IntN.{ℤ, pos, negsuc, negℤ, subℕ, _+ℤ_, _-ℤ_}
 use lib.Signed.{mag, leZ}
 use borrow.Author.Tests.{leb-true, le-leb, lt-leb, le-ltb, lt-ltb}
-use Rattle.numbers.specs.Number.{isBetween, isWorkingExponent}
+use Rattle.numbers.specs.Number.{isBetween, isWorkingExponent, isAdmissibleExponent}
 use Rattle.numbers.proofs.Laws.Exponent.{minus-same}
 use Rattle.numbers.proofs.Laws.Tests.{leb-same}
 
@@ -107,25 +107,36 @@ minus-only i o j p h =
 pub less-bias : (b : ℕ) → pos b -ℤ pos 65535 ≡ minus b 65535
 less-bias b = sub-minus b 65535
 
--- ---- is i - o working?
+-- ---- is i - o from -low to high?
 
-working-test : (i o : ℕ) → isWorkingExponent (minus i o) ≡ leb o (i + 65535) && leb i (o + 65536)
-unfolding isWorkingExponent isBetween
-working-test i o =
+between-test : (low high i o : ℕ) → isBetween (minus 0 low) (minus high 0) (minus i o) ≡ leb o (i + low) && leb i (o + high)
+unfolding isBetween
+between-test low high i o =
     ap₂ _&&_
-    (minus-order 0 65535 i o ∙ leb-same (0 + o) (i + 65535) o (i + 65535) (λ (l : 0 + o ≤ i + 65535). omega arith) (λ (l : o ≤ i + 65535). omega arith))
-    (minus-order i o 65536 0 ∙ leb-same (i + 0) (65536 + o) i (o + 65536) (λ (l : i + 0 ≤ 65536 + o). omega arith) (λ (l : i ≤ o + 65536). omega arith))
+    (minus-order 0 low i o ∙ leb-same (0 + o) (i + low) o (i + low) (λ (l : 0 + o ≤ i + low). omega arith) (λ (l : o ≤ i + low). omega arith))
+    (minus-order i o high 0 ∙ leb-same (i + 0) (high + o) i (o + high) (λ (l : i + 0 ≤ high + o). omega arith) (λ (l : i ≤ o + high). omega arith))
+
+pub between : (low high i o : ℕ) → o ≤ i + low → i ≤ o + high → isBetween (minus 0 low) (minus high 0) (minus i o) ≡ true
+between low high i o a b = between-test low high i o ∙ rw (le-leb o (i + low) a, le-leb i (o + high) b)
 
 pub working : (i o : ℕ) → o ≤ i + 65535 → i ≤ o + 65536 → isWorkingExponent (minus i o) ≡ true
-working i o a b = working-test i o ∙ rw (le-leb o (i + 65535) a, le-leb i (o + 65536) b)
+unfolding isWorkingExponent
+working i o a b = between 65535 65536 i o a b
 
 pub too-low : (i o : ℕ) → i + 65535 < o → isWorkingExponent (minus i o) ≡ false
-too-low i o h = working-test i o ∙ rw (lt-leb o (i + 65535) h)
+unfolding isWorkingExponent
+too-low i o h = between-test 65535 65536 i o ∙ rw (lt-leb o (i + 65535) h)
 
 pub too-high : (i o : ℕ) → o + 65536 < i → isWorkingExponent (minus i o) ≡ false
-too-high i o h = working-test i o ∙ rw (lt-leb i (o + 65536) h, and-false (leb o (i + 65535)))
+unfolding isWorkingExponent
+too-high i o h = between-test 65535 65536 i o ∙ rw (lt-leb i (o + 65536) h, and-false (leb o (i + 65535)))
 
 pub working-range : (i o : ℕ) → isWorkingExponent (minus i o) ≡ true → (o ≤ i + 65535) × (i ≤ o + 65536)
+unfolding isWorkingExponent
 working-range i o h =
-    let both = and-eq-true-iff (leb o (i + 65535)) (leb i (o + 65536)) .0 (sym (working-test i o) ∙ h) in
+    let both = and-eq-true-iff (leb o (i + 65535)) (leb i (o + 65536)) .0 (sym (between-test 65535 65536 i o) ∙ h) in
     (leb-true o (i + 65535) (both .0), leb-true i (o + 65536) (both .1))
+
+pub admissible : (i o : ℕ) → o ≤ i + 16446 → i ≤ o + 16384 → isAdmissibleExponent (minus i o) ≡ true
+unfolding isAdmissibleExponent
+admissible i o a b = between 16446 16384 i o a b

@@ -1,10 +1,10 @@
--- Reading and writing codes: what is read is fit and has the code's value, and each undoes the other.
+-- Reading and writing codes: what is read is fit and has the code's value, and each undoes the other. For any format; Parts shows that both are one.
 use mathlib.Core.Path.{_≡_, refl, sym, ap, _∙_}
 use mathlib.Core.Bool.{Bool, true, false, not, _&&_, cond, false≢true}
 use mathlib.Core.List.{List}
 use mathlib.Core.Logic.{_↔_}
 use mathlib.Core.Option.{Option, none, some}
-use Prim.Native.Nat.{ℕ, zero, suc, _+_, _-_, _*_, _%_, _^_, _≤_, _<_, zero-le}
+use Prim.Native.Nat.{ℕ, zero, suc, _+_, _-_, _*_, _%_, _^_, _≤_, _<_}
 use native.Mathlib.Nat.{lt-of-le-of-lt, mul-div-cancel, mul-mod-left, mul-le-mul-right, mul-lt-mul-of-pos-right, mul-pos, zero-mul}
 use native.Mathlib.Omega.{arith}
 use borrow.Author.Tests.{le-leb, lt-ltb, leb-true, leb-false, ne-eqb, eqb-true, eq-eqb}
@@ -14,14 +14,15 @@ use lib.IntN.{ℤ}
 use lib.ListN.{length}
 use lib.Pow.{pow-add, pow-pos}
 use Rattle.numbers.specs.Answer.{given, refused}
-use Rattle.numbers.specs.Codes.{allOnes, littleEndian, bytesOf, split, join, decoded, normalized, isCanonical, judgedCode, readingOf, fieldOf, belowNormal, encoded, equalCode, Lent, unwritten, packed, writingOf}
+use Rattle.numbers.specs.Codes.{allOnes, littleEndian, bytesOf, split, join, counted, decoded, normalized, isCanonical, judgedCode, readingOf, fieldOf, belowNormal, encoded, equalCode, Lent, unwritten, packed, writingOf}
 use Rattle.numbers.specs.Fraction.{Equal, value}
 use Rattle.numbers.specs.Layout.{IsFormat, IsBytes, HasEqualCode}
-use Rattle.numbers.specs.Number.{isWorking, isFit, isSignificand, isWorkingExponent}
+use Rattle.numbers.specs.Number.{isWorkingExponent, isSignificand, isFit, isWorking, isAdmissible}
 use Rattle.numbers.specs.declared.code.Code.{Code}
 use Rattle.numbers.specs.declared.code.Format.{Format}
 use Rattle.numbers.specs.declared.number.Number.{Number}
-use Rattle.numbers.proofs.Laws.Bias.{working}
+use Rattle.numbers.specs.declared.number.Number.the-variants.{Zero, Finite}
+use Rattle.numbers.proofs.Laws.Bias.{working, admissible}
 use Rattle.numbers.proofs.Laws.Bytes.{little-endian-below, little-endian-bytes, bytes-little-endian, bytes-length, bytes-are}
 use Rattle.numbers.proofs.Laws.Decoded.{normalized-equal, normalized-working, normalized-shift, normalized-zero, encoded-equal}
 use Rattle.numbers.proofs.Laws.Exponent.{minus-same}
@@ -35,10 +36,13 @@ use Rattle.numbers.proofs.Laws.Words.{raised}
 abbrev code : Bool → ℕ → ℕ → Code
 code s field S = record { negative = s; field = field; significand = S }
 
--- ---- a code that is decoded comes back: the number is working, and the code that equals it is the same
+-- ---- a code that is decoded comes back
 
-abbrev pub ComesBack : Format → Code → Type 0
-ComesBack f c = (isWorking (normalized (decoded f c)) ≡ true) × (equalCode f (normalized (decoded f c)) ≡ some c)
+-- the number is working, in a format no wider than double-extended even admissible, and the code that equals it is the same
+pub record ComesBack (f : Format) (c : Code) : Type 0 where
+  pub working-number : isWorking (normalized (decoded f c)) ≡ true
+  pub admissible-number : f .bias ≤ 16383 → isAdmissible (normalized (decoded f c)) ≡ true
+  pub same-code : equalCode f (normalized (decoded f c)) ≡ some c
 
 -- The number's exponent is z below that of the code, b - 65,535, as its significand is shifted left by z.
 module _ (f : Format) (s : Bool) (field S b z : ℕ) (formed : IsFormat f) where
@@ -57,22 +61,24 @@ module _ (f : Format) (s : Bool) (field S b z : ℕ) (formed : IsFormat f) where
       (rw (at, below, whole, mul-div-cancel S (pow-pos (z + t))), rw (below, whole) (mul-mod-left S (2 ^ (z + t))))
 
   -- so the code comes back from the place of the number's exponent
-  shifted : minus (cond (eqb field 0) 1 field) (f .bias) ≡ minus b 65535 → b ≤ f .bias + 65535 → z ≤ b → 2 ^ 63 ≤ T → T < 2 ^ 64 → fieldOf f e ≡ field → belowNormal f e ≡ z
+  shifted : minus (counted field) (f .bias) ≡ minus b 65535 → 65536 ≤ b + f .bias → b ≤ f .bias + 65535 → z ≤ 63 → 2 ^ 63 ≤ T → T < 2 ^ 64 → fieldOf f e ≡ field → belowNormal f e ≡ z
       → ComesBack f (code s field S)
-  unfolding decoded isWorking isFit isSignificand equalCode
-  shifted place bounded h low high at below =
-      let fit : isWorkingExponent e ≡ true = working (b - z) 65535 (omega arith) (omega (arith, formed .small-bias)) in
+  unfolding decoded isWorking isAdmissible isFit isSignificand equalCode
+  shifted place least most h low high at below =
+      let small = formed .small-bias in
+      let fit : isWorkingExponent e ≡ true = working (b - z) 65535 (omega arith) (omega arith) in
       let back = cut-back at below in
-      rw (
-        place,
-        normalized-shift s b (S * 2 ^ (64 - f .precision)) z h low high .1,
-        fit,
-        le-leb (2 ^ 63) T low,
-        lt-ltb T (2 ^ 64) high,
-        not-above f (b - z) formed ∙ le-leb (b - z) (f .bias + 65535) (omega arith),
-        encoded-equal f s e T formed fit ∙ eq-eqb (T % 2 ^ (belowNormal f e + (64 - f .precision))) 0 (back .1),
-        back .0,
-      ) (refl, refl)
+      let number : normalized (decoded f (code s field S)) ≡ Finite s e T = rw place (normalized-shift s b (S * 2 ^ (64 - f .precision)) z (omega arith) low high .1) in
+      record {
+        working-number = rw (number, fit, le-leb (2 ^ 63) T low, lt-ltb T (2 ^ 64) high);
+        admissible-number = λ (l : f .bias ≤ 16383). rw (number, admissible (b - z) 65535 (omega arith) (omega arith), le-leb (2 ^ 63) T low, lt-ltb T (2 ^ 64) high);
+        same-code = rw (
+          number,
+          not-above f (b - z) formed ∙ le-leb (b - z) (f .bias + 65535) (omega arith),
+          encoded-equal f s e T formed fit ∙ eq-eqb (T % 2 ^ (belowNormal f e + (64 - f .precision))) 0 (back .1),
+          back .0,
+        );
+      }
 
 -- field 1 and above: the top bit is in its place
 normal : (f : Format) (s : Bool) (m S : ℕ) → IsFormat f → suc m < allOnes f → 2 ^ (f .precision - 1) ≤ S → S < 2 ^ f .precision → ComesBack f (code s (suc m) S)
@@ -82,7 +88,7 @@ normal f s m S formed room low high =
     let there : 65536 ≤ b - 0 + f .bias = omega arith in
     shifted f s (suc m) S b 0 formed
     (rw (ne-eqb (suc m) 0 (λ (z : suc m ≡ 0). omega arith)) (minus-same (suc m) (f .bias) b 65535 (omega arith)))
-    (omega (arith, all-ones f formed)) zero-le
+    (omega arith) (omega (arith, all-ones f formed)) (omega arith)
     (omega (arith, word-parts (f .precision) (formed .some-bits) (formed .word-bits), mul-le-mul-right (2 ^ (64 - f .precision)) low))
     (omega (arith, word-power (f .precision) (formed .word-bits), mul-lt-mul-of-pos-right {k = 2 ^ (64 - f .precision)} high (pow-pos (64 - f .precision))))
     (place-normal f (b - 0) formed there .0 ∙ omega arith)
@@ -101,15 +107,17 @@ below f s S formed S0 high =
     let b = 65536 - f .bias in
     let small = formed .small-bias in
     let there : b - z + f .bias < 65536 = omega arith in
-    shifted f s 0 S b z formed (minus-same 1 (f .bias) b 65535 (omega arith)) (omega (arith, formed .some-bias)) (omega arith) (up .1) (up .2)
+    shifted f s 0 S b z formed (minus-same 1 (f .bias) b 65535 (omega arith)) (omega arith) (omega (arith, formed .some-bias)) (up .0) (up .1) (up .2)
     (place-below f (b - z) formed there .0)
     (place-below f (b - z) formed there .1 ∙ omega arith)
 
 -- field 0 with no bit, which is zero where the sign is not set
 nothing : (f : Format) (s : Bool) → not (s && true) ≡ true → ComesBack f (code s 0 0)
-unfolding decoded isWorking isFit equalCode
+unfolding decoded isWorking isAdmissible isFit equalCode
 nothing f true h = absurd (false≢true h)
-nothing f false h = rw (zero-mul (2 ^ (64 - f .precision)), normalized-zero false (minus 1 (f .bias))) (refl, refl)
+nothing f false h =
+    let number : normalized (decoded f (code false 0 0)) ≡ Zero = rw (zero-mul (2 ^ (64 - f .precision))) (normalized-zero false (minus 1 (f .bias))) in
+    record { working-number = rw number; admissible-number = λ (l : f .bias ≤ 16383). rw number; same-code = rw number }
 
 -- every canonical code that is a number comes back
 pub encoded-decoded : (f : Format) (c : Code) → IsFormat f → IsPlaced f c → isCanonical f c ≡ true → ComesBack f c
@@ -147,38 +155,49 @@ given-parts f bytes x formed h = go (eqb (length bytes) (f .length)) refl h
         }
     go false l m = absurd (let z : _≡_ {A = ℕ} 0 1 = cc in omega arith)
 
--- the number of a code that is read, and the code that equals it
-comes-back : (f : Format) (bytes : List ℕ) (x : Number) → IsFormat f → readingOf f bytes ≡ given x → (isWorking x ≡ true) × (equalCode f x ≡ some (split f (littleEndian bytes)))
+-- so does the code of a number that was read
+comes-back : (f : Format) (bytes : List ℕ) (x : Number) → IsFormat f → readingOf f bytes ≡ given x → ComesBack f (split f (littleEndian bytes))
 comes-back f bytes x formed h =
     let r = given-parts f bytes x formed h in
-    rw (← r .number) (encoded-decoded f (split f (littleEndian bytes)) formed (r .placed) (r .canonical))
+    encoded-decoded f (split f (littleEndian bytes)) formed (r .placed) (r .canonical)
 
--- what is read is fit
+-- what is read is fit, and may be divided
 pub read-working : (f : Format) (bytes : List ℕ) (x : Number) → IsFormat f → readingOf f bytes ≡ given x → isWorking x ≡ true
-read-working f bytes x formed h = comes-back f bytes x formed h .0
+read-working f bytes x formed h = rw (← given-parts f bytes x formed h .number) (comes-back f bytes x formed h .working-number)
+
+pub read-admissible : (f : Format) (bytes : List ℕ) (x : Number) → IsFormat f → f .bias ≤ 16383 → readingOf f bytes ≡ given x → isAdmissible x ≡ true
+read-admissible f bytes x formed low h = rw (← given-parts f bytes x formed h .number) (comes-back f bytes x formed h .admissible-number low)
+
+-- the code that equals it is the one that was read
+equal-read : (f : Format) (bytes : List ℕ) (x : Number) → IsFormat f → readingOf f bytes ≡ given x → equalCode f x ≡ some (split f (littleEndian bytes))
+equal-read f bytes x formed h = rw (← given-parts f bytes x formed h .number) (comes-back f bytes x formed h .same-code)
 
 -- and has the code's value
 pub read-value : (f : Format) (bytes : List ℕ) (x : Number) → IsFormat f → readingOf f bytes ≡ given x → Equal (value x) (value (decoded f (split f (littleEndian bytes))))
 unfolding Equal
 read-value f bytes x formed h =
-    let back = comes-back f bytes x formed h in
-    sym (equal-code f x (split f (littleEndian bytes)) formed (back .0) (back .1) .equal)
+    sym (equal-code f x (split f (littleEndian bytes)) formed (read-working f bytes x formed h) (equal-read f bytes x formed h) .equal)
 
 -- what is read is written as it was
 pub write-read : (f : Format) (bytes old : List ℕ) (x : Number) → IsFormat f → IsBytes bytes → length old ≡ f .length → readingOf f bytes ≡ given x → writingOf f x old ≡ record { refusal = none; bytes = bytes }
 unfolding writingOf packed
 write-read f bytes old x formed are long h =
     let r = given-parts f bytes x formed h in
-    let back = comes-back f bytes x formed h in
     let below : littleEndian bytes < 256 ^ f .length = rw (← r .long) (little-endian-below bytes are) in
     rw (
-      back .0,
+      read-working f bytes x formed h,
       eq-eqb (length old) (f .length) long,
-      back .1,
+      equal-read f bytes x formed h,
       join-split f (littleEndian bytes) formed below,
       ← r .long,
       bytes-little-endian bytes are,
     )
+
+-- no number has two codes
+pub one-code : (f : Format) (bytes other : List ℕ) (x : Number) → IsFormat f → IsBytes bytes → IsBytes other → readingOf f bytes ≡ given x → readingOf f other ≡ given x → bytes ≡ other
+one-code f bytes other x formed are too h k =
+    let long = given-parts f bytes x formed h .long in
+    ap (λ (l : Lent). l .bytes) (sym (write-read f bytes bytes x formed are long h) ∙ write-read f other bytes x formed too long k)
 
 -- ---- writing
 

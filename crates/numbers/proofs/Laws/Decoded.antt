@@ -13,7 +13,7 @@ use lib.Ieee.Fits.{down-pos}
 use lib.IntN.{ℤ, natAbs}
 use lib.Pow.{pow-add, pow-pos}
 use borrow.Author.Tests.{eqb-true, eq-eqb, ne-eqb}
-use Rattle.numbers.specs.Codes.{normalized, decoded, encoded, belowNormal}
+use Rattle.numbers.specs.Codes.{normalized, counted, decoded, encoded, belowNormal}
 use Rattle.numbers.specs.Fraction.{Equal, signed, value, isEqual}
 use Rattle.numbers.specs.Layout.{IsFormat, IsCode}
 use Rattle.numbers.specs.Number.{isWorkingExponent, isWorking}
@@ -105,7 +105,7 @@ normalized-zero s e = let none : natAbs (signed s (0 * up e)) ≡ 0 = abs-signed
 
 -- ---- the exponent of a code: field 0 counts as field 1
 
-pub counted-most : (f : Format) (c : Code) → IsFormat f → IsCode f c → cond (eqb (c .field) 0) 1 (c .field) ≤ 2 * f .bias + 1
+pub counted-most : (f : Format) (c : Code) → IsFormat f → IsCode f c → counted (c .field) ≤ 2 * f .bias + 1
 counted-most f c formed fits = go (eqb (c .field) 0)
   where
     go : (t : Bool) → cond t 1 (c .field) ≤ 2 * f .bias + 1

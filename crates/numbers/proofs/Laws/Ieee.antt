@@ -18,7 +18,7 @@ use lib.IntN.{ℤ}
 use lib.ListN.{length}
 use lib.Pow.{pow-add, pow-pos}
 use Rattle.numbers.specs.Answer.{given}
-use Rattle.numbers.specs.Codes.{binary64, exponentBits, allOnes, littleEndian, leadingOne, split, decoded, normalized, isCanonical, judgedCode, readingOf}
+use Rattle.numbers.specs.Codes.{binary64, exponentBits, allOnes, littleEndian, leadingOne, split, counted, decoded, normalized, isCanonical, judgedCode, readingOf}
 use Rattle.numbers.specs.Fraction.{IsFraction, Equal, signed, value}
 use Rattle.numbers.specs.Layout.{ieeeFraction}
 use Rattle.numbers.specs.declared.code.Code.{Code}
@@ -98,7 +98,7 @@ zero-together a b c d b0 d0 h = eqb-same c 0 a 0 (none a b c d b0 h) (none c d a
     none a b c d b0 h z = eq-of-mul-eq-mul-right b b0 a 0 (omega (arith, h, ap (λ (n : ℕ). n * d) z))
 
 -- so is a code of the significand S where m × 2^e is S × 2^k / 2^1074, k + 1 being the field that counts
-units-ieee : (c : Code) (k : ℕ) (s : Bool) (m : ℕ) (e : ℤ) → eqb (c .field) (allOnes binary64) ≡ false → cond (eqb (c .field) 0) 1 (c .field) ≡ suc k
+units-ieee : (c : Code) (k : ℕ) (s : Bool) (m : ℕ) (e : ℤ) → eqb (c .field) (allOnes binary64) ≡ false → counted (c .field) ≡ suc k
     → HasValue (fin s m e) (c .negative) (c .significand * 2 ^ k) (2 ^ (1023 + 51)) → IsIeee c s m e
 unfolding decoded binary64
 units-ieee c k s m e number counted (sign, units) =

@@ -1,6 +1,6 @@
 -- `numbers::decode::decode` meets its contract: the refusals in their order, and then the exponent and the significand of the code.
 use mathlib.Core.Path.{_≡_, sym, ap, _∙_}
-use mathlib.Core.Bool.{Bool, true, false, cond}
+use mathlib.Core.Bool.{Bool, true, false}
 use Prim.Native.Nat.{ℕ, _+_, _-_, _*_, _%_, _^_, _≤_}
 use native.Mathlib.Nat.{mod-eq-of-lt, mul-lt-mul-of-pos-right}
 use native.Mathlib.Omega.{arith}
@@ -13,7 +13,7 @@ use mir.Syntax.{w32}
 use mir.Val.{SFits, toZ, ofZ}
 use borrow.Author.Needs.{needs}
 use borrow.Author.Tests.{eq-eqb, ne-eqb, not-true, not-false}
-use Rattle.numbers.specs.Codes.{reading, allOnes, isCanonical, judgedCode, decoded}
+use Rattle.numbers.specs.Codes.{reading, allOnes, isCanonical, judgedCode, counted, decoded}
 use Rattle.numbers.specs.Layout.{IsFormat, IsCode}
 use Rattle.numbers.specs.declared.code.Code.{Code}
 use Rattle.numbers.specs.declared.code.Format.{Format}
@@ -45,11 +45,11 @@ module _ (f : Format) (c : Code) (x : Number) (formed : IsFormat f) (fits : IsCo
     through h = rw (no-ones, sym is ∙ h)
 
   -- the exponent, biased
-  biased-most : (k : ℕ) → k ≡ cond (eqb (c .field) 0) 1 (c .field) → k + (65535 - f .bias) ≤ 98303
+  biased-most : (k : ℕ) → k ≡ counted (c .field) → k + (65535 - f .bias) ≤ 98303
   biased-most k h = omega (arith, h, counted-most f c formed fits, formed .small-bias)
 
-  exponent-is : (k : ℕ) (r : ℤ) → k ≡ cond (eqb (c .field) 0) 1 (c .field) → SFits w32 r → r ≡ minus (k + (65535 - f .bias)) 65535
-      → toZ w32 (ofZ w32 r) ≡ minus (cond (eqb (c .field) 0) 1 (c .field)) (f .bias)
+  exponent-is : (k : ℕ) (r : ℤ) → k ≡ counted (c .field) → SFits w32 r → r ≡ minus (k + (65535 - f .bias)) 65535
+      → toZ w32 (ofZ w32 r) ≡ minus (counted (c .field)) (f .bias)
   exponent-is k r h range e =
       toZ-ofZ range ∙ e ∙ minus-same (k + (65535 - f .bias)) 65535 k (f .bias) (omega (arith, formed .small-bias)) ∙ ap (λ (n : ℕ). minus n (f .bias)) h
 
@@ -58,7 +58,7 @@ module _ (f : Format) (c : Code) (x : Number) (formed : IsFormat f) (fits : IsCo
       mod-eq-of-lt {m = 18446744073709551616}
       (rw (word-power (f .precision) (formed .word-bits)) at (mul-lt-mul-of-pos-right {k = 2 ^ (64 - f .precision)} (fits .significand-fits) (pow-pos (64 - f .precision))))
 
-number-is : (f : Format) (c : Code) → IsFormat f → IsCode f c → (k : ℕ) (r : ℤ) → k ≡ cond (eqb (c .field) 0) 1 (c .field) → SFits w32 r → r ≡ minus (k + (65535 - f .bias)) 65535
+number-is : (f : Format) (c : Code) → IsFormat f → IsCode f c → (k : ℕ) (r : ℤ) → k ≡ counted (c .field) → SFits w32 r → r ≡ minus (k + (65535 - f .bias)) 65535
     → decoded f c ≡ Finite (c .negative) (toZ w32 (ofZ w32 r)) (c .significand * 2 ^ (64 - f .precision) % 18446744073709551616)
 unfolding decoded
 number-is f c formed fits k r h range e = rw (exponent-is f c (decoded f c) formed fits k r h range e, significand-is f c (decoded f c) formed fits)

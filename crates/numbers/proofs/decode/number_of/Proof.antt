@@ -1,26 +1,21 @@
 -- `numbers::decode::number_of` meets its contract: a number that was decoded is normalized, and a refusal is returned as it is.
 use mathlib.Core.Path.{_≡_, sym, ap, _∙_}
-use mathlib.Core.Bool.{true, cond}
+use mathlib.Core.Bool.{true}
 use mathlib.Core.List.{[], _∷_}
-use Prim.Native.Nat.{ℕ, _+_, _*_, _≤_}
 use native.Mathlib.Omega.{arith}
-use lib.Dec.{eqb}
-use lib.Ieee.{minus}
 use denote.Enum.Declared.{tagOf}
 use types.Run.{OneOf, miss}
 use borrow.Author.Needs.{needs}
-use borrow.Author.Tests.{le-leb}
 use Rattle.numbers.specs.Answer.{given}
-use Rattle.numbers.specs.Codes.{reading, judgedCode, decoded, normalized}
+use Rattle.numbers.specs.Codes.{counted, decoded, normalized, judgedCode, reading}
 use Rattle.numbers.specs.Layout.{IsFormat, IsCode, isNormalizable}
-use Rattle.numbers.specs.Number.{isBetween}
 use Rattle.numbers.specs.declared.code.Code.{Code}
 use Rattle.numbers.specs.declared.code.Format.{Format}
 use Rattle.numbers.specs.declared.code.Reading.{Reading}
 use Rattle.numbers.specs.declared.code.Reading.the-variants.{Given, WrongLength, AllOnes, Noncanonical}
 use Rattle.numbers.specs.declared.number.Number.{Number}
 use Rattle.numbers.proofs.Laws.Decoded.{counted-most}
-use Rattle.numbers.proofs.Laws.Bias.{minus-order}
+use Rattle.numbers.proofs.Laws.Bias.{between}
 use Rattle.numbers.proofs.Laws.Parts.{judged-number, judged-given, judged-refused}
 use Rattle.numbers.proofs.code.Reading.{the-type}
 use Rattle.numbers.proofs.decode.number_of.Statement.{statement}
@@ -44,18 +39,12 @@ unfolding reading
 normalized-code f c x y is through e = sym (through y) ∙ ap (judgedCode f c) (e ∙ ap normalized is)
 
 -- the exponents of a format leave room below for a shift
-counted-normalizable : (bias k : ℕ) → bias ≤ 32767 → k ≤ 2 * bias + 1 → isBetween (minus 0 65472) (minus 65536 0) (minus k bias) ≡ true
-unfolding isBetween
-counted-normalizable bias k low high =
-    rw (
-      minus-order 0 65472 k bias ∙ le-leb (0 + bias) (k + 65472) (omega arith),
-      minus-order k bias 65536 0 ∙ le-leb (k + 0) (65536 + bias) (omega arith),
-    )
-
 decoded-normalizable : (f : Format) (c : Code) (x : Number) → IsFormat f → IsCode f c → x ≡ decoded f c → isNormalizable x ≡ true
 unfolding isNormalizable decoded
 decoded-normalizable f c x formed fits is =
-    rw is (counted-normalizable (f .bias) (cond (eqb (c .field) 0) 1 (c .field)) (formed .small-bias) (counted-most f c formed fits))
+    let most = counted-most f c formed fits in
+    let small = formed .small-bias in
+    rw is (between 65472 65536 (counted (c .field)) (f .bias) (omega arith) (omega arith))
 
 decode-requires : tie.Need-decode-requires
 decode-requires c κs = search needs

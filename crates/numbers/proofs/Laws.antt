@@ -28,7 +28,8 @@ pub mod Negated
 pub mod Sum
 pub mod Aligned
 pub mod Refusals
--- Codes: the number with a code's value, little-endian bytes, the parts of a code, and the theorems on reading and writing
+-- Codes: the field of an exponent, the number with a code's value, little-endian bytes, the parts of a code, the code that equals a number, what the
+-- entries owe, and the theorems on reading and writing
 pub mod Places
 pub mod Decoded
 pub mod Bytes

@@ -1,6 +1,6 @@
 -- What a reader must believe of the crate `numbers`, in document 01's order: which numbers are fit (Number), exact fractions and a number's
--- value (Fraction), rounding to n bits (Rounding), the task, the refusals and what each operation answers (Answer), the two formats and what reading and writing a code
--- answer (Codes).
+-- value (Fraction), rounding to n bits (Rounding), the task, the refusals and what each operation answers (Answer), the two formats and what reading
+-- and writing a code answer (Codes).
 -- Grid and Layout have the terms that the laws of rounding and of codes are stated in, and Words those of private contracts; no promise of a public
 -- function cites them.
 -- Definitions only; the laws stand in proofs/Laws.

@@ -14,7 +14,7 @@ use Rattle.numbers.specs.Layout.{IsFormat}
 use Rattle.numbers.specs.declared.code.Format.{Format}
 use Rattle.numbers.proofs.Laws.Bias.{minus-down, minus-plus, minus-minus, minus-order}
 
--- of the exponent b - 65,535
+-- the exponent b - 65,535 is that of a normal number, or lies below
 module _ (f : Format) (b : ℕ) (formed : IsFormat f) where
   order : leZ (f .lowest) (minus b 65535) ≡ leb (1 + 65535) (b + f .bias)
   order = ap (λ (e : ℤ). leZ e (minus b 65535)) (formed .lowest-is) ∙ minus-order 1 (f .bias) b 65535

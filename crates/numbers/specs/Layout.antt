@@ -6,13 +6,14 @@ use mathlib.Core.Option.{Option, none, some}
 use Prim.Native.Nat.{ℕ, _+_, _*_, _^_, _≤_, _<_}
 use lib.Ieee.{up, down, minus}
 use lib.IntN.{ℤ, pos, negℤ}
-use lib.ListN.{getD}
+use lib.ListN.{length, getD}
 use Rattle.numbers.specs.Answer.{given}
-use Rattle.numbers.specs.Codes.{exponentBits, readingOf}
+use Rattle.numbers.specs.Codes.{exponentBits, readingOf, Lent, packed, writingOf, writing}
 use Rattle.numbers.specs.Fraction.{Fraction, Equal, signed, value}
 use Rattle.numbers.specs.Number.{isBetween}
 use Rattle.numbers.specs.declared.code.Code.{Code}
 use Rattle.numbers.specs.declared.code.Format.{Format}
+use Rattle.numbers.specs.declared.code.Writing.the-variants as write
 use Rattle.numbers.specs.declared.pack.Packing.{Packing}
 use Rattle.numbers.specs.declared.pack.Packing.the-variants as pack
 use Rattle.numbers.specs.declared.number.Number.{Number}
@@ -54,7 +55,18 @@ unfoldable pub isNormalizable : Number → Bool
 isNormalizable Zero = true
 isNormalizable (Finite negative e S) = isBetween (negℤ (pos 65472)) (pos 65536) e
 
--- what a packing holds
-unfoldable pub packing : Packing → Option Code
-packing (pack.Code c) = some c
-packing pack.NoEqualCode = none
+-- the packing of the code that equals a number, or of none
+unfoldable pub packingOf : Option Code → Packing
+packingOf none = pack.Refused write.NoEqualCode
+packingOf (some c) = pack.Code c
+
+-- what a call leaves that writes the code of a packing, or answers its refusal
+unfoldable pub laid : Format → Packing → List ℕ → Lent
+laid f (pack.Code c) old = packed f old (some c)
+laid f (pack.Refused answer) old = writing answer old
+
+-- r is what is to be written for x into n bytes, and a code has room there
+pub record IsPacking (f : Format) (x : Number) (n : ℕ) (r : Packing) : Type 0 where
+  pub leaves : (old : List ℕ) → length old ≡ n → laid f r old ≡ writingOf f x old
+  pub long : (c : Code) → r ≡ pack.Code c → n ≡ f .length
+  pub room : (c : Code) → r ≡ pack.Code c → IsCode f c

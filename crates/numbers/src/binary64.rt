@@ -11,7 +11,6 @@ use super::code::Writing;
 use super::decode::number_of;
 use super::little_endian;
 use super::number::Number;
-use super::number::is_working;
 use super::pack::Packing;
 use super::pack::pack;
 use super::pack::sign_bit;
@@ -60,20 +59,14 @@ impl Binary64 {
     pub fn write(x: Number, bytes: &mut [u8]) -> Writing
         ensures { λ r. ⌜ writing r (now (bytes .exit)) ≡ writingOf binary64 x (now (bytes .entry)) ⌝ }
     {
-        let fit = is_working(x);
-        let length = bytes.len();
-        if !fit {
-            return Writing::Unfit;
+        let packed = pack(x, bytes.len(), Self::format());
+        match packed {
+            Packing::Refused(refusal) => refusal,
+            Packing::Code(code) => {
+                Self::from_parts(code).write_bytes(bytes);
+                Writing::Written
+            }
         }
-        if length != Self::LENGTH {
-            return Writing::WrongLength;
-        }
-        let found = pack(x, Self::format());
-        let Packing::Code(code) = found else {
-            return Writing::NoEqualCode;
-        };
-        Self::from_parts(code).write_bytes(bytes);
-        Writing::Written
     }
 
     // The format's constants.

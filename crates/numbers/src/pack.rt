@@ -1,27 +1,46 @@
-// The code that equals a number, in either format.
+// What is written for a number, in either format: the code that equals it, or a refusal.
 ghost use mathlib.Core.Path.{_≡_};
 ghost use mathlib.Core.Bool.{true};
 ghost use Rattle.numbers.specs.Codes.{signBit, fieldOf, belowNormal, equalCode};
-ghost use Rattle.numbers.specs.Layout.{IsFormat, packing};
+ghost use Rattle.numbers.specs.Layout.{IsFormat, IsPacking, packingOf};
 ghost use Rattle.numbers.specs.Number.{isWorkingExponent, isWorking};
 use super::code::Code;
 use super::code::Format;
+use super::code::Writing;
 use super::number::BIAS;
 use super::number::Number;
 use super::number::biased;
+use super::number::is_working;
 use super::words::cut;
 
-// The code that equals a number, or that there is none.
+// The code to write, or the refusal.
 pub(crate) enum Packing {
     Code(Code),
-    NoEqualCode,
+    Refused(Writing),
+}
+
+// What is written for x into so many bytes: the refusals in the order of document 01's table, and then
+// the code.
+pub(crate) fn pack(x: Number, length: usize, format: Format) -> Packing
+    requires { ⌜ IsFormat format ⌝ }
+    ensures { λ r. ⌜ IsPacking format x length r ⌝ }
+{
+    let fit = is_working(x);
+    let room = format.length;
+    if !fit {
+        return Packing::Refused(Writing::Unfit);
+    }
+    if length != room {
+        return Packing::Refused(Writing::WrongLength);
+    }
+    equal_code(x, format)
 }
 
 // The code that equals a working number, if there is one: the exponent is not above the highest, and
 // no bit of the significand falls off.
-pub(crate) fn pack(x: Number, format: Format) -> Packing
+fn equal_code(x: Number, format: Format) -> Packing
     requires { ⌜ IsFormat format × (isWorking x ≡ true) ⌝ }
-    ensures { λ r. ⌜ packing r ≡ equalCode format x ⌝ }
+    ensures { λ r. ⌜ r ≡ packingOf (equalCode format x) ⌝ }
 {
     let Number::Finite {
         negative,
@@ -36,14 +55,14 @@ pub(crate) fn pack(x: Number, format: Format) -> Packing
         });
     };
     if format.highest < exponent {
-        return Packing::NoEqualCode;
+        return Packing::Refused(Writing::NoEqualCode);
     }
     let place = place_of(exponent, format);
     let part = cut(significand, place.below + (64 - format.precision));
     let kept = part.value;
     let lost = part.rest;
     if lost {
-        return Packing::NoEqualCode;
+        return Packing::Refused(Writing::NoEqualCode);
     }
     Packing::Code(Code {
         negative,

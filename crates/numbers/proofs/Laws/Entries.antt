@@ -1,12 +1,14 @@
 -- What the entries that read and write codes owe, over any format: each way out of the program is a row of the definition.
-use mathlib.Core.Path.{_≡_, sym, ap, _∙_}
+use mathlib.Core.Path.{_≡_, refl, sym, ap, _∙_}
 use mathlib.Core.Bool.{Bool, true, false}
 use mathlib.Core.List.{List}
+use mathlib.Core.Option.{Option, none, some}
 use Prim.Native.Nat.{ℕ}
+use native.Mathlib.Omega.{arith}
 use lib.ListN.{length}
 use borrow.Author.Tests.{eq-eqb, ne-eqb}
 use Rattle.numbers.specs.Codes.{littleEndian, bytesOf, split, join, decoded, normalized, judgedCode, readingOf, equalCode, unwritten, packed, writingOf, reading, refusalOf, writing}
-use Rattle.numbers.specs.Layout.{IsFormat, IsCode, packing}
+use Rattle.numbers.specs.Layout.{IsFormat, IsCode, packingOf, laid, IsPacking}
 use Rattle.numbers.specs.Number.{isWorking}
 use Rattle.numbers.specs.declared.code.Code.{Code}
 use Rattle.numbers.specs.declared.code.Format.{Format}
@@ -14,6 +16,7 @@ use Rattle.numbers.specs.declared.pack.Packing.{Packing}
 use Rattle.numbers.specs.declared.pack.Packing.the-variants as pack
 use Rattle.numbers.specs.declared.code.Reading.{Reading}
 use Rattle.numbers.specs.declared.code.Reading.the-variants as read
+use Rattle.numbers.specs.declared.code.Writing.{Writing}
 use Rattle.numbers.specs.declared.code.Writing.the-variants as write
 use Rattle.numbers.specs.declared.number.Number.{Number}
 use Rattle.numbers.proofs.Laws.Packed.{equal-code-fits}
@@ -32,37 +35,71 @@ module _ (f : Format) (bytes : List ℕ) where
   read-number held w c r h is word-is code-is answer =
       rw (eq-eqb (length bytes) (f .length) h, sym (code-is ∙ ap (split f) word-is), sym is) answer
 
+pub held-format : (f held : Format) → IsFormat f → held ≡ f → IsFormat held
+held-format f held formed is = rw is formed
+
 pub read-requires : (f held : Format) (w : ℕ) (c : Code) → IsFormat f → held ≡ f → c ≡ split f w → IsFormat held × IsCode held c
-read-requires f held w c formed is code-is = rw (is, code-is) (formed, split-code f w formed)
+read-requires f held w c formed is code-is = (held-format f held formed is, rw (is, code-is) (split-code f w formed))
 
--- ---- writing; `fit` is what the test of x answered, and r what packing found
+-- ---- packing; `fit` is what the test of x answered
 
-module _ (f : Format) (x : Number) (fit : Bool) (fit-is : fit ≡ isWorking x) where
-  pub write-unfit : (old : List ℕ) → fit ≡ false → writing write.Unfit old ≡ writingOf f x old
+refused-code : (answer : Writing) (c : Code) → pack.Refused answer ≡ pack.Code c → ⊥
+refused-code answer c h = let z : _≡_ {A = ℕ} 0 1 = cc in omega arith
+
+-- a refusal packs no code
+refused-packing : (f : Format) (x : Number) (n : ℕ) (answer : Writing) → ((old : List ℕ) → length old ≡ n → writing answer old ≡ writingOf f x old) → IsPacking f x n (pack.Refused answer)
+unfolding laid
+refused-packing f x n answer h = record {
+  leaves = h;
+  long = λ (c : Code) (e : pack.Refused answer ≡ pack.Code c). absurd (refused-code answer c e);
+  room = λ (c : Code) (e : pack.Refused answer ≡ pack.Code c). absurd (refused-code answer c e);
+}
+
+module _ (f : Format) (x : Number) (n : ℕ) (fit : Bool) (fit-is : fit ≡ isWorking x) where
+  pub pack-unfit : fit ≡ false → IsPacking f x n (pack.Refused write.Unfit)
   unfolding writing refusalOf writingOf unwritten
-  write-unfit old h = rw (sym fit-is ∙ h)
+  pack-unfit h = refused-packing f x n write.Unfit (λ (old : List ℕ) (l : length old ≡ n). rw (sym fit-is ∙ h))
 
-  module _ (working : fit ≡ true) where
-    pub write-wrong-length : (old : List ℕ) → (length old ≡ f .length → ⊥) → writing write.WrongLength old ≡ writingOf f x old
-    unfolding writing refusalOf writingOf unwritten
-    write-wrong-length old h = rw (sym fit-is ∙ working, ne-eqb (length old) (f .length) h)
+  pub pack-wrong-length : fit ≡ true → (n ≡ f .length → ⊥) → IsPacking f x n (pack.Refused write.WrongLength)
+  unfolding writing refusalOf writingOf unwritten
+  pack-wrong-length w h =
+      refused-packing f x n write.WrongLength
+      (λ (old : List ℕ) (l : length old ≡ n). rw (sym fit-is ∙ w, ne-eqb (length old) (f .length) (λ (z : length old ≡ f .length). h (sym l ∙ z))))
 
-    pub write-requires : (held : Format) → IsFormat f → held ≡ f → IsFormat held × (isWorking x ≡ true)
-    write-requires held formed is = (rw is formed, sym fit-is ∙ working)
+  pub pack-code : IsFormat f → fit ≡ true → n ≡ f .length → (r : Packing) → r ≡ packingOf (equalCode f x) → IsPacking f x n r
+  unfolding laid writing refusalOf writingOf packed unwritten packingOf
+  pack-code formed w h r is = rw is (go (equalCode f x) refl)
+    where
+      go : (o : Option Code) → equalCode f x ≡ o → IsPacking f x n (packingOf o)
+      go none e =
+          refused-packing f x n write.NoEqualCode
+          (λ (old : List ℕ) (l : length old ≡ n). rw (sym fit-is ∙ w, eq-eqb (length old) (f .length) (l ∙ h), e))
+      go (some c) e = record {
+        leaves = λ (old : List ℕ) (l : length old ≡ n). rw (sym fit-is ∙ w, eq-eqb (length old) (f .length) (l ∙ h), e);
+        long = λ (d : Code) (k : pack.Code c ≡ pack.Code d). h;
+        room = λ (d : Code) (k : pack.Code c ≡ pack.Code d). let same : c ≡ d = cc in equal-code-fits f x d formed (sym fit-is ∙ w) (e ∙ ap some same);
+      }
 
-    module _ (held : Format) (r : Packing) (is : held ≡ f) (found : packing r ≡ equalCode held x) where
-      packing-is : packing r ≡ equalCode f x
-      packing-is = found ∙ ap (λ (g : Format). equalCode g x) is
+-- ---- writing; r is what packing found
 
-      pub write-no-code : (old : List ℕ) → length old ≡ f .length → r ≡ pack.NoEqualCode → writing write.NoEqualCode old ≡ writingOf f x old
-      unfolding writing refusalOf writingOf unwritten packed packing
-      write-no-code old h none-is = rw (sym fit-is ∙ working, eq-eqb (length old) (f .length) h, sym packing-is, none-is)
+held-packing : (f held : Format) (x : Number) (n : ℕ) (r : Packing) → held ≡ f → IsPacking held x n r → IsPacking f x n r
+held-packing f held x n r is found = rw (← is) found
 
-      pub write-code-fits : (c : Code) → IsFormat f → r ≡ pack.Code c → IsCode f c
-      unfolding packing
-      write-code-fits c formed code-is = equal-code-fits f x c formed (sym fit-is ∙ working) (sym packing-is ∙ ap packing code-is)
+module _ (f held : Format) (x : Number) (n : ℕ) (r : Packing) (is : held ≡ f) (found : IsPacking held x n r) where
+  pub write-long : (c : Code) → r ≡ pack.Code c → n ≡ f .length
+  write-long c e = held-packing f held x n r is found .long c e
 
-      pub write-code : (c : Code) (w : ℕ) (old new : List ℕ) → length old ≡ f .length → r ≡ pack.Code c → w ≡ join f c → new ≡ bytesOf (f .length) w → writing write.Written new ≡ writingOf f x old
-      unfolding writing refusalOf writingOf packed packing
-      write-code c w old new h code-is word-is new-is =
-          rw (sym fit-is ∙ working, eq-eqb (length old) (f .length) h, sym packing-is, code-is, new-is, word-is)
+  pub write-room : (c : Code) → r ≡ pack.Code c → IsCode f c
+  write-room c e = held-packing f held x n r is found .room c e
+
+module _ (f held : Format) (x : Number) (old : List ℕ) (r : Packing) (is : held ≡ f) (found : IsPacking held x (length old) r) where
+  leaves : (p : Packing) → r ≡ p → laid f p old ≡ writingOf f x old
+  leaves p e = ap (λ (q : Packing). laid f q old) (sym e) ∙ held-packing f held x (length old) r is found .leaves old refl
+
+  pub write-refused : (answer : Writing) → r ≡ pack.Refused answer → writing answer old ≡ writingOf f x old
+  unfolding laid
+  write-refused answer e = leaves (pack.Refused answer) e
+
+  pub write-code : (c : Code) (w : ℕ) (new : List ℕ) → r ≡ pack.Code c → w ≡ join f c → new ≡ bytesOf (f .length) w → writing write.Written new ≡ writingOf f x old
+  unfolding laid packed writing refusalOf
+  write-code c w new e word-is new-is = rw (new-is, word-is) (leaves (pack.Code c) e)

@@ -5,7 +5,9 @@ use Prim.Native.Nat.{ℕ, zero, suc, _+_, _-_, _*_, _/_, _%_, _^_, _≤_, _<_}
 use native.Mathlib.Nat.{div-add-mod', div-lt-iff-lt-mul, mod-lt}
 use native.Mathlib.Omega.{arith}
 use lib.Arith.{digits-lt, digits-div, digits-mod}
-use lib.Dec.{leb, ltb, eqb, lit≤}
+use lib.Dec.{T, leb, ltb, eqb, lit≤}
+use lib.Ieee.{minus}
+use lib.IntN.{pos}
 use lib.Pow.{pow-add, pow-pos}
 use Rattle.numbers.specs.Answer.{given, refused}
 use Rattle.numbers.specs.Codes.{doubleExtended, binary64, exponentBits, allOnes, split, join, isCanonical, judgedCode}
@@ -16,36 +18,29 @@ use Rattle.numbers.specs.declared.number.Number.{Number}
 use Rattle.numbers.proofs.Laws.Leading.{leading-room, leading-back, upper-below}
 use Rattle.numbers.proofs.Laws.Powers.{byte-power}
 
--- the constants of both formats are as those of a format are
+-- the constants of both formats are as those of a format are: tests that compute, and equations
+formed-by : (f : Format) → T (leb 1 (f .precision)) → T (leb (f .precision) 64) → T (leb (f .stored) (f .precision)) → T (leb (f .precision) (f .stored + 1)) → T (leb 1 (f .bias)) → T (leb (f .bias) 32767)
+    → f .stored + exponentBits f + 1 ≡ 8 * f .length → 2 ^ exponentBits f ≡ 2 * f .bias + 2 → f .lowest ≡ minus 1 (f .bias) → f .highest ≡ pos (f .bias) → IsFormat f
+formed-by f some-bits word-bits stored-most stored-least some-bias small-bias layout fields lowest highest = record {
+  some-bits = lit≤ some-bits;
+  word-bits = lit≤ word-bits;
+  stored-most = lit≤ stored-most;
+  stored-least = lit≤ stored-least;
+  layout = layout;
+  fields = fields;
+  some-bias = lit≤ some-bias;
+  small-bias = lit≤ small-bias;
+  lowest-is = lowest;
+  highest-is = highest;
+}
+
 pub double-extended-format : IsFormat doubleExtended
 unfolding doubleExtended exponentBits
-double-extended-format = record {
-  some-bits = lit≤ tt;
-  word-bits = lit≤ tt;
-  stored-most = lit≤ tt;
-  stored-least = lit≤ tt;
-  layout = refl;
-  fields = refl;
-  some-bias = lit≤ tt;
-  small-bias = lit≤ tt;
-  lowest-is = refl;
-  highest-is = refl;
-}
+double-extended-format = formed-by doubleExtended tt tt tt tt tt tt refl refl refl refl
 
 pub binary64-format : IsFormat binary64
 unfolding binary64 exponentBits
-binary64-format = record {
-  some-bits = lit≤ tt;
-  word-bits = lit≤ tt;
-  stored-most = lit≤ tt;
-  stored-least = lit≤ tt;
-  layout = refl;
-  fields = refl;
-  some-bias = lit≤ tt;
-  small-bias = lit≤ tt;
-  lowest-is = refl;
-  highest-is = refl;
-}
+binary64-format = formed-by binary64 tt tt tt tt tt tt refl refl refl refl
 
 -- a code has 1 bit of sign above the exponent's bits and the stored ones
 all-bits : (f : Format) → IsFormat f → 256 ^ f .length ≡ 2 * 2 ^ exponentBits f * 2 ^ f .stored

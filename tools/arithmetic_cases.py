@@ -10,13 +10,12 @@ from typing import Iterator, NamedTuple
 import model
 from model import AWAY, DOWN, EXACT, NEAR, STICKY, TRUNC, UP, ZERO, Finite, Number
 from operands import (
-    HIGHEST, LOWEST, ONES, TOP_BIT, UNFIT, answer_text, any_finite, any_signed, bits, negated,
-    number, number_text, signed,
+    HIGHEST, LARGEST_WORD, LOWEST, ONES, TOP_BIT, UNFIT, answer_text, any_finite, any_signed,
+    arguments_text, bits, negated, number, signed,
 )
 
 MODES = (TRUNC, AWAY, NEAR, STICKY, UP, DOWN, EXACT)
 OPERATIONS = {"add": model.add, "sub": model.subtract, "mul": model.multiply}
-LARGEST_CODE = 2**32 - 1
 
 
 class Case(NamedTuple):
@@ -31,8 +30,7 @@ class Case(NamedTuple):
     @property
     def text(self) -> str:
         """The fields of the case."""
-        return (f"{self.operation} {self.code} {self.precision} "
-                f"{number_text(self.first)} {number_text(self.second)}")
+        return f"{self.operation} {arguments_text(*self[1:])}"
 
     @property
     def answer(self) -> str:
@@ -80,8 +78,8 @@ def document_values(chance: random.Random) -> Iterator[Case]:
 
 def codes_and_precisions(chance: random.Random) -> Iterator[Case]:
     """Every code and some beyond, with precisions at and beyond both ends."""
-    codes = (*range(9), 255, 2**31, LARGEST_CODE)
-    precisions = (0, 1, 2, 63, 64, 65, 66, 128, 2**31, LARGEST_CODE)
+    codes = (*range(9), 255, 2**31, LARGEST_WORD)
+    precisions = (0, 1, 2, 63, 64, 65, 66, 128, 2**31, LARGEST_WORD)
     operations = cycle(OPERATIONS)
     for code, n in product(codes, precisions):
         yield Case(next(operations), code, n, any_finite(chance, -2, 2), any_finite(chance, -2, 2))
@@ -99,7 +97,7 @@ def order_of_refusals(chance: random.Random) -> Iterator[Case]:
     unfit = (Finite(False, 0, TOP_BIT - 1), Finite(True, 3, 0), Finite(False, 65_537, TOP_BIT),
              Finite(True, -65_536, ONES), Finite(False, 2**31 - 1, ONES), Finite(True, -2**31, 1))
     operands = (ZERO, Finite(False, HIGHEST, ONES), Finite(True, LOWEST, TOP_BIT), *unfit)
-    tasks = ((NEAR, 64), (EXACT, 1), (7, 24), (UP, 0), (LARGEST_CODE, 65))
+    tasks = ((NEAR, 64), (EXACT, 1), (7, 24), (UP, 0), (LARGEST_WORD, 65))
     operations = cycle(OPERATIONS)
     for first, second in product(operands, repeat=2):
         for code, n in tasks:
@@ -325,7 +323,7 @@ KINDS = (
 NO_CASES = """
 zero
 add
-div 2 64 zero zero
+rem 2 64 zero zero
 Add 2 64 zero zero
 adds 2 64 zero zero
  add 2 64 zero zero

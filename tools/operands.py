@@ -10,6 +10,7 @@ from model import ZERO, Finite, Number, Refused
 LOWEST, HIGHEST = model.WORKING[0], model.WORKING[-1]
 TOP_BIT = 2**63
 ONES = 2**64 - 1
+LARGEST_WORD = 2**32 - 1
 # Each way of being unfit: by the top bit, and by the exponent.
 UNFIT = (*(Finite(False, 0, s) for s in (0, 1, TOP_BIT >> 1, TOP_BIT - 1)),
          *(Finite(False, e, TOP_BIT)
@@ -21,6 +22,11 @@ def number_text(x: Number) -> str:
     if x is ZERO:
         return "zero"
     return f"{'-' if x.negative else '+'} {x.significand:016x} {x.exponent}"
+
+
+def arguments_text(code: int, precision: int, first: Number, second: Number) -> str:
+    """A mode code, a precision and two operands as a line has them."""
+    return f"{code} {precision} {number_text(first)} {number_text(second)}"
 
 
 def refusal_text(refusal: Refused) -> str:

@@ -20,9 +20,10 @@ sys.path.insert(0, sys.argv[1])
 
 import arithmetic_cases
 import code_cases
+import division_cases
 
 WIDTH = 80
-FAMILIES = (arithmetic_cases, code_cases)
+FAMILIES = (arithmetic_cases, code_cases, division_cases)
 
 
 def padded(text: str) -> str:
@@ -38,7 +39,7 @@ def main() -> None:
         cases = list(kind(random.Random(kind.__name__)))
         given += [padded(case.text) for case in cases]
         wanted += [case.answer + "\n" for case in cases]
-        print(f"{len(cases):5} {kind.__name__}")
+        print(f"{len(cases):5} {kind.__module__} {kind.__name__}")
     lines = [line for family in FAMILIES for line in family.NO_CASES.splitlines()]
     given += [padded(line) for line in lines]
     wanted += ["not a case\n"] * len(lines)

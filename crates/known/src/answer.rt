@@ -3,31 +3,74 @@
 use super::buffer;
 use super::number;
 use super::out;
+use division::answer::Quotient;
+use division::answer::Step;
 use numbers::answer::Answer;
 use numbers::code::Reading;
 use numbers::code::Writing;
+use numbers::number::Number;
 
-// Prints what an operation answers.
-pub fn print(answer: Answer) {
-    match answer {
-        Answer::Given(x) => number::print(x),
-        Answer::UnknownMode => refused(1),
-        Answer::BadPrecision => refused(2),
-        Answer::FirstUnfit => refused(3),
-        Answer::SecondUnfit => refused(4),
-        Answer::ExponentOutside => refused(7),
-        Answer::TooManyBits => refused(8),
-    }
-    out::bytes(b"\n");
+// A number, or the row that refused.
+pub enum Outcome {
+    Given(Number),
+    Refused(u64),
 }
 
-// Prints what reading a code answers.
-pub fn print_reading(answer: Reading) {
+// What an operation answers.
+pub fn of_operation(answer: Answer) -> Outcome {
     match answer {
-        Reading::Given(x) => number::print(x),
-        Reading::WrongLength => refused(9),
-        Reading::AllOnes => refused(10),
-        Reading::Noncanonical => refused(11),
+        Answer::Given(x) => Outcome::Given(x),
+        Answer::UnknownMode => Outcome::Refused(1),
+        Answer::BadPrecision => Outcome::Refused(2),
+        Answer::FirstUnfit => Outcome::Refused(3),
+        Answer::SecondUnfit => Outcome::Refused(4),
+        Answer::ExponentOutside => Outcome::Refused(7),
+        Answer::TooManyBits => Outcome::Refused(8),
+    }
+}
+
+// What a division answers.
+pub fn of_quotient(answer: Quotient) -> Outcome {
+    match answer {
+        Quotient::Given(x) => Outcome::Given(x),
+        Quotient::UnknownMode => Outcome::Refused(1),
+        Quotient::BadPrecision => Outcome::Refused(2),
+        Quotient::FirstUnfit => Outcome::Refused(3),
+        Quotient::SecondUnfit => Outcome::Refused(4),
+        Quotient::ZeroDivisor => Outcome::Refused(5),
+    }
+}
+
+// What a step of a division answers.
+pub fn of_step(answer: Step) -> Outcome {
+    match answer {
+        Step::Given(x) => Outcome::Given(x),
+        Step::UnknownMode => Outcome::Refused(1),
+        Step::BadPrecision => Outcome::Refused(2),
+        Step::FirstUnfit => Outcome::Refused(3),
+        Step::SecondUnfit => Outcome::Refused(4),
+        Step::ZeroDivisor => Outcome::Refused(5),
+        Step::NoSuchStep => Outcome::Refused(6),
+        Step::ExponentOutside => Outcome::Refused(7),
+        Step::TooManyBits => Outcome::Refused(8),
+    }
+}
+
+// What reading a code answers.
+pub fn of_reading(answer: Reading) -> Outcome {
+    match answer {
+        Reading::Given(x) => Outcome::Given(x),
+        Reading::WrongLength => Outcome::Refused(9),
+        Reading::AllOnes => Outcome::Refused(10),
+        Reading::Noncanonical => Outcome::Refused(11),
+    }
+}
+
+// Prints what is given or refused.
+pub fn print(answer: Outcome) {
+    match answer {
+        Outcome::Given(x) => number::print(x),
+        Outcome::Refused(row) => refused(row),
     }
     out::bytes(b"\n");
 }

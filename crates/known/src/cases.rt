@@ -5,6 +5,7 @@ use super::arithmetic::Operation;
 use super::codes;
 use super::codes::Entry;
 use super::codes::Format;
+use super::divisions;
 use super::line;
 use super::line::Cursor;
 use super::line::Line;
@@ -21,6 +22,12 @@ pub fn run(text: &Line) {
     }
     if let Place::Past(next) = line::past(text, start, b"mul") {
         return arithmetic::run(text, next, Operation::Multiply);
+    }
+    if let Place::Past(next) = line::past(text, start, b"div") {
+        return divisions::run_quotient(text, next);
+    }
+    if let Place::Past(next) = line::past(text, start, b"step") {
+        return divisions::run_step(text, next);
     }
     if let Place::Past(next) = line::past(text, start, b"read10 ") {
         return codes::run(text, next, Entry::Read(Format::DoubleExtended));

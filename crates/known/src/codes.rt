@@ -47,7 +47,7 @@ fn run_read(text: &Line, c: Cursor, format: Format, code: &[u8]) {
     if !line::ended(text, c) {
         return answer::print_no_case();
     }
-    answer::print_reading(read(format, code));
+    answer::print(answer::of_reading(read(format, code)));
 }
 
 fn run_write(text: &Line, c: Cursor, format: Format, bytes: &mut [u8]) {

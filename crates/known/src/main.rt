@@ -1,10 +1,12 @@
 // Runs the cases that stand on standard input, one to a line of 80 bytes, and prints an answer line
 // for each. The input ends where no whole line is left.
 mod answer;
+mod arguments;
 mod arithmetic;
 mod buffer;
 mod cases;
 mod codes;
+mod divisions;
 mod line;
 mod number;
 mod out;

@@ -1,3 +1,2 @@
--- The laws and the known values; each function's proof stands in the folder of its name.
-pub mod Known
+-- The laws; each function's proof stands in the folder of its name.
 pub mod Laws

@@ -70,6 +70,9 @@ hasAtMostBits n a b = let e = exponentOf a b in eqb (scaledNumerator n e a % sca
 abbrev pub byMode : Mode → ℕ → Task
 byMode mode n = Round (record { mode = mode; precision = n })
 
+abbrev pub claim : ℕ → Task
+claim n = Exact (record { precision = n })
+
 unfoldable pub taskOf : ℕ → ℕ → Task
 taskOf code n =
     cond (eqb code 0) (byMode Trunc n)
@@ -78,7 +81,7 @@ taskOf code n =
     (cond (eqb code 3) (byMode Sticky n)
     (cond (eqb code 4) (byMode Up n)
     (cond (eqb code 5) (byMode Down n)
-    (Exact (record { precision = n })))))))
+    (claim n))))))
 
 -- the n of a task, and "n from 1 to 64"
 unfoldable pub precisionOf : Task → ℕ

@@ -23,7 +23,7 @@ use super::words;
 // The last mode code, and the largest precision.
 const LAST_CODE: u32 = 6;
 
-const LARGEST_PRECISION: u32 = 64;
+pub const LARGEST_PRECISION: u32 = 64;
 
 // a + b.
 pub fn add(a: Number, b: Number, code: u32, precision: u32) -> Answer

@@ -1,6 +1,5 @@
 // The task of a step: a rounding mode with a precision, or an exactness claim.
 ghost use mathlib.Core.Path.{_≡_};
-ghost use Prim.Native.Nat.{_≤_};
 ghost use Rattle.numbers.specs.Rounding.{taskOf};
 
 pub enum Mode {
@@ -29,9 +28,9 @@ pub enum Task {
     Exact(Claim),
 }
 
-// The task that a code from 0 to 6 and a precision name.
-pub(crate) fn task_of(code: u32, precision: u32) -> Task
-    requires { ⌜ code ≤ 6 ⌝ }
+// The task that a mode code and a precision name. Codes end at 6, the exact claim; the entries refuse a
+// higher one, which here is a claim too.
+pub fn task_of(code: u32, precision: u32) -> Task
     ensures { λ r. ⌜ r ≡ taskOf code precision ⌝ }
 {
     match code {

@@ -26,11 +26,11 @@ use Rattle.numbers.specs.declared.task.Mode.the-variants.{Trunc}
 use Rattle.numbers.proofs.Laws.Bias.{biased-working}
 use Rattle.numbers.proofs.Laws.Bounds.{kept-number}
 use Rattle.numbers.proofs.Laws.Exponent.{minus-same}
-use Rattle.numbers.proofs.Laws.Fractions.{equal-test, equal-passes}
+use Rattle.numbers.proofs.Laws.Fractions.{signed-equal, equal-test, equal-passes}
 use Rattle.numbers.proofs.Laws.Operands.{working-parts}
 use Rattle.numbers.proofs.Laws.Places.{place-normal, place-below}
 use Rattle.numbers.proofs.Laws.Rounded.{value-fraction}
-use Rattle.numbers.proofs.Laws.Signs.{abs-signed, signed-times}
+use Rattle.numbers.proofs.Laws.Signs.{abs-signed}
 use Rattle.numbers.proofs.Laws.Tests.{one-test}
 use Rattle.numbers.proofs.Laws.Value.{value-alone, equal-magnitudes}
 
@@ -58,11 +58,9 @@ uncross S T a b o c c0 h =
     ))
 
 pub same-value : (s : Bool) (S T a b o : ℕ) → S * 2 ^ a ≡ T * 2 ^ b → Equal (value (Finite s (minus a o) S)) (value (Finite s (minus b o) T))
-unfolding Equal value
+unfolding value
 same-value s S T a b o h =
-    signed-times s (S * up (minus a o)) (2 ^ 63 * down (minus b o))
-    ∙ ap (signed s) (cross S T a b o (2 ^ 63) h)
-    ∙ sym (signed-times s (T * up (minus b o)) (2 ^ 63 * down (minus a o)))
+    signed-equal s (S * up (minus a o)) (2 ^ 63 * down (minus a o)) (T * up (minus b o)) (2 ^ 63 * down (minus b o)) (cross S T a b o (2 ^ 63) h)
 
 pub value-same : (s : Bool) (S T a b o : ℕ) → Equal (value (Finite s (minus a o) S)) (value (Finite s (minus b o) T)) → S * 2 ^ a ≡ T * 2 ^ b
 unfolding value

@@ -107,9 +107,9 @@ round-fits mode n x b0 n0 n1 = go (natAbs (x .numerator)) refl
         let p = placed-fits (isNegative (x .numerator)) (exponentOf (natAbs (x .numerator)) (x .denominator)) n (r .0) n0 n1 (r .2) (r .3) in
         rw (r .1, p .2) (p .3)
 
-zero-is : isWorking Zero ≡ true
+pub zero-working : isWorking Zero ≡ true
 unfolding isWorking isFit
-zero-is = refl
+zero-working = refl
 
 -- a number that passes row 7 is working
 checked-working : (y z : Number) → isFit (λ (e : ℤ). true) y ≡ true → checked y ≡ given z → isWorking z ≡ true
@@ -146,11 +146,8 @@ unfolding claimed judged
 claimed-working n x y x0 n0 n1 h =
     go (eqb (natAbs (x .numerator)) 0) (isWorkingExponent (exponentOf (natAbs (x .numerator)) (x .denominator))) (hasAtMostBits n (natAbs (x .numerator)) (x .denominator)) refl h
   where
-    zero-working : y ≡ Zero → isWorking y ≡ true
-    zero-working e = rw e zero-is
-
     go : (z w b : Bool) → isWorkingExponent (exponentOf (natAbs (x .numerator)) (x .denominator)) ≡ w → cond z (given Zero) (cond w (cond b (given (round Trunc n x)) (refused 8)) (refused 7)) ≡ given y → isWorking y ≡ true
-    go true w b e k = zero-working (cc)
+    go true w b e k = let l : y ≡ Zero = cc in rw l zero-working
     go false true true e k = let l : y ≡ round Trunc n x = cc in rw l (trunc-working n x x0 n0 n1 e)
     go false true false e k = absurd (let z : _≡_ {A = ℕ} 0 1 = cc in omega arith)
     go false false b e k = absurd (let z : _≡_ {A = ℕ} 0 1 = cc in omega arith)

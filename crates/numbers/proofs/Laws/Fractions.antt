@@ -1,17 +1,18 @@
--- The exact sum and product of fractions depend on their values alone, and what they are over one denominator; and the test of equal fractions.
+-- The exact sum, difference, product and quotient of fractions depend on their values alone, and what they are by signs and magnitudes; and the test of
+-- equal fractions.
 use mathlib.Core.Path.{_≡_, refl, sym, ap, ap₂, _∙_}
 use mathlib.Core.Bool.{Bool, true, false, not, Bool·not-not, and-eq-true-iff}
 use Prim.Native.Nat.{ℕ, zero, suc, _+_, _-_, _*_, _≤_, _<_}
 use native.Mathlib.Decide.{decLe}
-use native.Mathlib.Nat.{zero-mul, le-antisymm, le-of-lt, lt-of-not-le, add-mul, mul-comm, mul-assoc, mul-sub, mul-le-mul-right, mul-pos}
+use native.Mathlib.Nat.{zero-mul, le-antisymm, le-of-lt, lt-of-not-le, add-mul, mul-comm, mul-assoc, mul-sub, mul-le-mul-right, lt-of-mul-lt-mul-right, mul-pos}
 use native.Mathlib.Omega.{arith}
 use lib.Ieee.{unlike}
-use lib.IntN.{ℤ, pos, negsuc, negℤ, negℤ-negℤ, natAbs, +ℤ-comm, *ℤ-negsuc, _+ℤ_, _*ℤ_}
+use lib.IntN.{ℤ, pos, negsuc, negℤ, negℤ-negℤ, natAbs, +ℤ-comm, zero-*ℤ, *ℤ-negsuc, _+ℤ_, _*ℤ_}
 use lib.Signed.{leZ}
 use borrow.Author.Tests.{leb-true, le-leb}
-use Rattle.numbers.specs.Fraction.{Fraction, IsFraction, Equal, isEqual, signed, sum, product, dividedBy, quotient}
+use Rattle.numbers.specs.Fraction.{Fraction, IsFraction, Equal, isEqual, signed, sum, difference, product, dividedBy, quotient}
 use Rattle.numbers.specs.Rounding.{isNegative}
-use Rattle.numbers.proofs.Laws.Signs.{signed-abs, signed-times, negative-product, same-sign, other-sign}
+use Rattle.numbers.proofs.Laws.Signs.{signed-abs, abs-zero, signed-times, negative-product, same-sign, other-sign}
 use Rattle.numbers.proofs.Laws.Value.{equal-magnitudes, equal-signs}
 
 -- ---- whole numbers times a natural one
@@ -21,9 +22,6 @@ times-times z a b = go (isNegative z) (natAbs z) (signed-abs z)
   where
     go : (s : Bool) (n : ℕ) → signed s n ≡ z → z *ℤ pos a *ℤ pos b ≡ z *ℤ pos (a * b)
     go s n e = rw (← e) (simp signed-times (ap (signed s) (mul-assoc n a b)))
-
-pub times-swap : (z : ℤ) (a b : ℕ) → z *ℤ pos a *ℤ pos b ≡ z *ℤ pos b *ℤ pos a
-times-swap z a b = times-times z a b ∙ ap (λ (n : ℕ). z *ℤ pos n) (mul-comm a b) ∙ sym (times-times z b a)
 
 -- a sum of two signed numbers, times c
 signed-sum-times : (s t : Bool) (a b c : ℕ) → (signed s a +ℤ signed t b) *ℤ pos c ≡ signed s a *ℤ pos c +ℤ signed t b *ℤ pos c
@@ -65,6 +63,10 @@ pub sum-fraction : (x y : Fraction) → IsFraction x → IsFraction y → IsFrac
 unfolding IsFraction sum
 sum-fraction x y x0 y0 = mul-pos x0 y0
 
+pub difference-fraction : (x y : Fraction) → IsFraction x → IsFraction y → IsFraction (difference x y)
+unfolding IsFraction difference
+difference-fraction x y x0 y0 = mul-pos x0 y0
+
 pub product-fraction : (x y : Fraction) → IsFraction x → IsFraction y → IsFraction (product x y)
 unfolding IsFraction product
 product-fraction x y x0 y0 = mul-pos x0 y0
@@ -72,6 +74,11 @@ product-fraction x y x0 y0 = mul-pos x0 y0
 -- a fraction by its parts
 abbrev pub fraction : ℤ → ℕ → Fraction
 fraction n d = record { numerator = n; denominator = d }
+
+-- two of one sign are equal where the cross products of the magnitudes are
+pub signed-equal : (s : Bool) (a b c d : ℕ) → a * d ≡ c * b → Equal (fraction (signed s a) b) (fraction (signed s c) d)
+unfolding Equal
+signed-equal s a b c d e = signed-times s a d ∙ ap (signed s) e ∙ sym (signed-times s c b)
 
 pub sum-swap : (x y : Fraction) → sum x y ≡ sum y x
 unfolding sum
@@ -93,6 +100,26 @@ sum-equal x y u v e f =
         times-times x c (b * d) ∙ ap (λ (n : ℕ). x *ℤ pos n) (let k : c * (b * d) ≡ b * (c * d) = omega arith in k) ∙ sym (times-times x b (c * d))
         ∙ ap (λ (z : ℤ). z *ℤ pos (c * d)) e
         ∙ times-times u a (c * d) ∙ ap (λ (n : ℕ). u *ℤ pos n) (let k : a * (c * d) ≡ d * (a * c) = omega arith in k) ∙ sym (times-times u d (a * c))
+
+-- a difference is the sum with the opposite
+pub opposite-times : (z : ℤ) (n : ℕ) → negℤ z *ℤ pos n ≡ negℤ (z *ℤ pos n)
+opposite-times (pos zero) n = ap pos (zero-mul n) ∙ sym (ap (λ (m : ℕ). negℤ (pos m)) (zero-mul n))
+opposite-times (pos (suc a)) n = refl
+opposite-times (negsuc a) n = sym (negℤ-negℤ (pos (suc a * n)))
+
+abbrev pub opposite : Fraction → Fraction
+opposite x = fraction (negℤ (x .numerator)) (x .denominator)
+
+pub difference-sum : (x y : Fraction) → difference x y ≡ sum x (opposite y)
+unfolding difference sum
+difference-sum x y = rw (opposite-times (y .numerator) (x .denominator))
+
+opposite-equal : (x y : Fraction) → Equal x y → Equal (opposite x) (opposite y)
+unfolding Equal
+opposite-equal x y e = opposite-times (x .numerator) (y .denominator) ∙ ap negℤ e ∙ sym (opposite-times (y .numerator) (x .denominator))
+
+pub difference-equal : (x y u v : Fraction) → Equal x u → Equal y v → Equal (difference x y) (difference u v)
+difference-equal x y u v e f = rw (difference-sum x y, difference-sum u v) (sum-equal x (opposite y) u (opposite v) e (opposite-equal y v f))
 
 -- the product, by signs and magnitudes
 pub product-equal : (x y u v : Fraction) → IsFraction x → IsFraction y → IsFraction u → IsFraction v → Equal x u → Equal y v → Equal (product x y) (product u v)
@@ -122,11 +149,6 @@ other-sum s a b d h =
 
 -- ---- the quotient
 
-pub opposite-times : (z : ℤ) (n : ℕ) → negℤ z *ℤ pos n ≡ negℤ (z *ℤ pos n)
-opposite-times (pos zero) n = ap pos (zero-mul n) ∙ sym (ap (λ (m : ℕ). negℤ (pos m)) (zero-mul n))
-opposite-times (pos (suc a)) n = refl
-opposite-times (negsuc a) n = sym (negℤ-negℤ (pos (suc a * n)))
-
 two-turns : (z : ℤ) (q : ℕ) → negℤ z *ℤ negsuc q ≡ z *ℤ pos (suc q)
 two-turns z q = *ℤ-negsuc (negℤ z) q ∙ ap negℤ (opposite-times z (suc q)) ∙ negℤ-negℤ (z *ℤ pos (suc q))
 
@@ -153,6 +175,48 @@ quotient-product x y = go (y .numerator) refl
     go (negsuc q) e =
         ap (λ (z : ℤ). z *ℤ pos (x .denominator)) (two-turns (x .numerator *ℤ pos (y .denominator)) q)
         ∙ level (y .denominator) (x .denominator) (suc q) (x .numerator)
+
+-- the quotient, by signs and magnitudes
+pub quotient-signed : (s t : Bool) (a b c d : ℕ) → 0 < c → quotient (fraction (signed s a) b) (fraction (signed t c) d) ≡ fraction (signed (unlike s t) (a * d)) (b * c)
+unfolding quotient dividedBy signed
+quotient-signed false false a b c d c0 = refl
+quotient-signed true false a b c d c0 = ap (λ (z : ℤ). fraction z (b * c)) (signed-times true a d)
+quotient-signed s true a b zero d c0 = absurd (omega arith)
+quotient-signed false true a b (suc c) d c0 = refl
+quotient-signed true true a b (suc c) d c0 = ap (λ (z : ℤ). fraction z (b * suc c)) (ap negℤ (signed-times true a d) ∙ negℤ-negℤ (pos (a * d)))
+
+quotient-parts : (x y : Fraction) → 0 < natAbs (y .numerator)
+    → quotient x y
+    ≡ fraction (signed (unlike (isNegative (x .numerator)) (isNegative (y .numerator))) (natAbs (x .numerator) * y .denominator)) (x .denominator * natAbs (y .numerator))
+quotient-parts x y some =
+    ap₂ quotient (parts x) (parts y)
+    ∙ quotient-signed (isNegative (x .numerator)) (isNegative (y .numerator)) (natAbs (x .numerator)) (x .denominator) (natAbs (y .numerator)) (y .denominator) some
+  where
+    parts : (x : Fraction) → x ≡ fraction (signed (isNegative (x .numerator)) (natAbs (x .numerator))) (x .denominator)
+    parts x = ap (λ (z : ℤ). fraction z (x .denominator)) (sym (signed-abs (x .numerator)))
+
+pub quotient-equal : (x y u v : Fraction) → IsFraction x → IsFraction y → IsFraction u → IsFraction v → 0 < natAbs (y .numerator) → Equal x u → Equal y v
+    → Equal (quotient x y) (quotient u v)
+unfolding Equal IsFraction
+quotient-equal x y u v x0 y0 u0 v0 some e f =
+    rw (quotient-parts x y some, quotient-parts u v other, equal-signs x u x0 u0 e, equal-signs y v y0 v0 f)
+    (simp signed-times
+    (ap (signed (unlike (isNegative (u .numerator)) (isNegative (v .numerator)))) (omega (arith, ap₂ _*_ (equal-magnitudes x u e) (sym (equal-magnitudes y v f))))))
+  where
+    other : 0 < natAbs (v .numerator)
+    other = lt-of-mul-lt-mul-right (y .denominator) (omega (arith, equal-magnitudes y v f, mul-pos some v0))
+
+-- zero divided by a number is zero
+pub quotient-zero : (x y : Fraction) → natAbs (x .numerator) ≡ 0 → natAbs (quotient x y .numerator) ≡ 0
+unfolding quotient dividedBy
+quotient-zero x y none = go (y .numerator)
+  where
+    nothing : x .numerator *ℤ pos (y .denominator) ≡ pos 0
+    nothing = ap (λ (z : ℤ). z *ℤ pos (y .denominator)) (abs-zero (x .numerator) none) ∙ zero-*ℤ (pos (y .denominator))
+
+    go : (z : ℤ) → natAbs (dividedBy (x .numerator *ℤ pos (y .denominator)) (x .denominator) z .numerator) ≡ 0
+    go (pos q) = ap natAbs nothing
+    go (negsuc q) = ap (λ (z : ℤ). natAbs (negℤ z)) nothing
 
 -- ---- the test of two fractions: it passes exactly where they are equal
 

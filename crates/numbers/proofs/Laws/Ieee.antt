@@ -19,15 +19,15 @@ use lib.ListN.{length}
 use lib.Pow.{pow-add, pow-pos}
 use Rattle.numbers.specs.Answer.{given}
 use Rattle.numbers.specs.Codes.{binary64, exponentBits, allOnes, littleEndian, leadingOne, split, counted, decoded, normalized, isCanonical, judgedCode, readingOf}
-use Rattle.numbers.specs.Fraction.{IsFraction, Equal, signed, value}
+use Rattle.numbers.specs.Fraction.{IsFraction, Equal, value}
 use Rattle.numbers.specs.Layout.{ieeeFraction}
 use Rattle.numbers.specs.declared.code.Code.{Code}
 use Rattle.numbers.specs.declared.number.Number.{Number}
 use Rattle.numbers.specs.declared.number.Number.the-variants.{Finite}
 use Rattle.numbers.proofs.Laws.Codes.{given-parts, read-value}
+use Rattle.numbers.proofs.Laws.Fractions.{signed-equal}
 use Rattle.numbers.proofs.Laws.Parts.{binary64-format, canonical-parts, parts-canonical}
 use Rattle.numbers.proofs.Laws.Rounded.{value-fraction}
-use Rattle.numbers.proofs.Laws.Signs.{signed-times}
 use Rattle.numbers.proofs.Laws.Tests.{leb-same, eqb-same}
 use Rattle.numbers.proofs.Laws.Value.{equal-through}
 
@@ -68,11 +68,10 @@ fields-finite s (suc k) r = go (eqb (suc k) 2047) (eqb r 0)
 
 -- m × 2^e is S × 2^k / 2^(l + 51), which is the value of S in a word at the exponent k + 1 - l
 scaled : (s : Bool) (S m k l : ℕ) (e : ℤ) → m * up e * 2 ^ (l + 51) ≡ S * 2 ^ k * down e → Equal (value (Finite s (minus (suc k) l) (S * 2 ^ 11))) (ieeeFraction s m e)
-unfolding Equal value ieeeFraction
+unfolding value ieeeFraction
 scaled s S m k l e h =
     let b = minus (suc k) l in
-    signed-times s (S * 2 ^ 11 * up b) (down e)
-    ∙ ap (signed s)
+    signed-equal s (S * 2 ^ 11 * up b) (2 ^ 63 * down b) (m * up e) (down e)
     (eq-of-mul-eq-mul-right (2 ^ l) (pow-pos l) (S * 2 ^ 11 * up b * down e) (m * up e * (2 ^ 63 * down b))
     (omega (
       arith,
@@ -81,7 +80,6 @@ scaled s S m k l e h =
       ap (λ (n : ℕ). m * up e * down b * n) (pow-add 2 l 51),
       ap (λ (n : ℕ). n * down b) h,
     )))
-    ∙ sym (signed-times s (m * up e) (2 ^ 63 * down b))
 
 -- the code c is a number, it has the sign s, it is zero where m is, and its value is m × 2^e with that sign
 pub record IsIeee (c : Code) (s : Bool) (m : ℕ) (e : ℤ) : Type 0 where

@@ -16,7 +16,16 @@ use Rattle.numbers.specs.Words.{lastBit, scaledValue, operandValue, IsOp
 use Rattle.numbers.specs.declared.number.Number.{Number}
 use Rattle.numbers.specs.declared.number.Number.the-variants.{Zero, Finite}
 use Rattle.numbers.specs.declared.operand.Operand.{Operand}
-use Rattle.numbers.proofs.Laws.Signs.{signed-times, negative-product}
+use Rattle.numbers.proofs.Laws.Fractions.{signed-equal}
+use Rattle.numbers.proofs.Laws.Signs.{negative-product}
+
+-- a number that is not zero and is fit
+pub fit-parts : (inRange : ℤ → Bool) (s : Bool) (e : ℤ) (S : ℕ) → isFit inRange (Finite s e S) ≡ true → (inRange e ≡ true) × (2 ^ 63 ≤ S) × (S < 2 ^ 64)
+unfolding isFit isSignificand
+fit-parts inRange s e S h =
+    let a = and-eq-true-iff (inRange e) (isSignificand S) .0 h in
+    let b = and-eq-true-iff (leb (2 ^ 63) S) (ltb S (2 ^ 64)) .0 (a .1) in
+    (a .0, leb-true (2 ^ 63) S (b .0), ltb-true S (2 ^ 64) (b .1))
 
 pub record IsWorkingFinite (e : ℤ) (S : ℕ) : Type 0 where
   pub exponent : isWorkingExponent e ≡ true
@@ -24,12 +33,8 @@ pub record IsWorkingFinite (e : ℤ) (S : ℕ) : Type 0 where
   pub word : S < 2 ^ 64
 
 pub working-parts : (x : Number) (s : Bool) (e : ℤ) (S : ℕ) → isWorking x ≡ true → x ≡ Finite s e S → IsWorkingFinite e S
-unfolding isWorking isFit isSignificand isWorkingExponent
-working-parts x s e S h k =
-    let w : isWorking (Finite s e S) ≡ true = rw k at h in
-    let a = and-eq-true-iff (isWorkingExponent e) (isSignificand S) .0 w in
-    let b = and-eq-true-iff (leb (2 ^ 63) S) (ltb S (2 ^ 64)) .0 (a .1) in
-    record { exponent = a .0; top = leb-true (2 ^ 63) S (b .0); word = ltb-true S (2 ^ 64) (b .1) }
+unfolding isWorking
+working-parts x s e S h k = let parts = fit-parts isWorkingExponent s e S (rw k at h) in record { exponent = parts .0; top = parts .1; word = parts .2 }
 
 -- 0 / 1 is 0 over anything
 nothing : (p q : ℕ) → pos 0 *ℤ pos q ≡ pos (0 * p) *ℤ pos 1
@@ -44,8 +49,8 @@ zero-operand x a e k =
     )
 
 -- S × 2^(E - o) over 2^t is S × 2^(E + q) over 2^l, where l is o + q + t
-scaled : (S E o q t l : ℕ) → l ≡ o + (q + t) → S * up (minus E o) * 2 ^ l ≡ S * 2 ^ (E + q) * (2 ^ t * down (minus E o))
-scaled S E o q t l e =
+pub biased-power : (S E o q t l : ℕ) → l ≡ o + (q + t) → S * up (minus E o) * 2 ^ l ≡ S * 2 ^ (E + q) * (2 ^ t * down (minus E o))
+biased-power S E o q t l e =
     ap (λ (n : ℕ). S * up (minus E o) * n) (ap (λ (n : ℕ). 2 ^ n) e ∙ pow-add 2 o (q + t) ∙ ap (λ (n : ℕ). 2 ^ o * n) (pow-add 2 q t))
     ∙ omega (arith, ap (λ (n : ℕ). n * (2 ^ q * 2 ^ t)) (minus-val S E o), ap (λ (n : ℕ). S * n * (2 ^ t * down (minus E o))) (pow-add 2 E q))
 
@@ -55,10 +60,10 @@ last-bit = refl
 
 pub finite-operand : (x : Number) (s : Bool) (e : ℤ) (S E : ℕ) → x ≡ Finite s e S → isWorking x ≡ true → e ≡ minus E 65535 → E ≤ 131071
     → Equal (value x) (operandValue (record { negative = s; exponent = E; significand = S })) × IsOperand (record { negative = s; exponent = E; significand = S })
-unfolding Equal value operandValue scaledValue
+unfolding value operandValue scaledValue
 finite-operand x s e S E k working b range =
     let w = working-parts x s e S working k in (
-      rw (k, b) (signed-times s (S * up (minus E 65535)) (2 ^ lastBit) ∙ ap (signed s) (scaled S E 65535 65598 63 lastBit last-bit) ∙ sym (signed-times s (S * 2 ^ (E + 65598)) (2 ^ 63 * down (minus E 65535)))),
+      rw (k, b) (signed-equal s (S * up (minus E 65535)) (2 ^ 63 * down (minus E 65535)) (S * 2 ^ (E + 65598)) (2 ^ lastBit) (biased-power S E 65535 65598 63 lastBit last-bit)),
       record { biased = range; word = w .word; normal = λ (z : 0 < S + E). w .top },
     )
 
@@ -82,12 +87,11 @@ unfolding lastBit
 twice = refl
 
 pub product-value : (a b : Operand) → Equal (product (operandValue a) (operandValue b)) (scaledValue (unlike (a .negative) (b .negative)) (a .significand * b .significand) (a .exponent + b .exponent))
-unfolding Equal product operandValue scaledValue
+unfolding product operandValue scaledValue
 product-value a b =
     let u = unlike (a .negative) (b .negative) in
     let A = a .significand * 2 ^ (a .exponent + 65598) in
     let B = b .significand * 2 ^ (b .exponent + 65598) in
-    ap (λ (z : ℤ). z *ℤ pos (2 ^ lastBit)) (negative-product (a .negative) (b .negative) A B)
-    ∙ signed-times u (A * B) (2 ^ lastBit)
-    ∙ ap (signed u) (powers (a .significand) (b .significand) (a .exponent) (b .exponent) 65598 lastBit twice)
-    ∙ sym (signed-times u (a .significand * b .significand * 2 ^ (a .exponent + b .exponent)) (2 ^ lastBit * 2 ^ lastBit))
+    rw (negative-product (a .negative) (b .negative) A B)
+    (signed-equal u (A * B) (2 ^ lastBit * 2 ^ lastBit) (a .significand * b .significand * 2 ^ (a .exponent + b .exponent)) (2 ^ lastBit)
+    (powers (a .significand) (b .significand) (a .exponent) (b .exponent) 65598 lastBit twice))

@@ -1,12 +1,13 @@
--- Powers of two in products.
-use mathlib.Core.Path.{_≡_, refl, sym, ap, _∙_}
+-- Powers of two: in products, against each other, and 2^e as one power over another.
+use mathlib.Core.Path.{_≡_, refl, sym, ap, ap₂, _∙_}
 use Prim.Native.Nat.{ℕ, zero, suc, _+_, _-_, _*_, _^_, _≤_, _<_}
 use native.Mathlib.Decide.{decLe}
 use native.Mathlib.Nat.{lt-of-le-of-lt, lt-of-not-le, not-le-of-lt, pow-succ'}
 use native.Mathlib.Omega.{arith}
 use lib.Dec.{lit<}
-use lib.Ieee.{size}
+use lib.Ieee.{size, up, down}
 use lib.Ieee.Digits.{size-lt, size-reaches}
+use lib.IntN.{ℤ, pos, negsuc}
 use lib.Pow.{pow-add, pow-mono}
 
 -- 2^(n - 1) × 2 × 2^(t - n) is 2^t
@@ -57,3 +58,34 @@ pow-below x y h = go (decLe y x)
 
 pub below-top : (n t F : ℕ) → 2 ^ n ≤ F → F < 2 ^ suc t → n ≤ t
 below-top n t F h k = let l : n < suc t = pow-below n (suc t) (lt-of-le-of-lt h k) in omega arith
+
+-- a product of two powers that is at most F, or above it
+pub powers-below : (i j k F : ℕ) → 2 ^ i * 2 ^ j ≤ F → F < 2 ^ k → i + j < k
+powers-below i j k F low high = pow-below (i + j) k (rw (pow-add 2 i j) (lt-of-le-of-lt low high))
+
+pub below-powers : (i j k F : ℕ) → 2 ^ k ≤ F → F < 2 ^ i * 2 ^ j → k < i + j
+below-powers i j k F low high = pow-below k (i + j) (rw (pow-add 2 i j) (lt-of-le-of-lt low high))
+
+-- ---- which numbers are powers
+
+-- A is 2^a
+abbrev pub IsPower : ℕ → Type 0
+IsPower A = (a : ℕ) × (A ≡ 2 ^ a)
+
+pub power-product : (A B : ℕ) → IsPower A → IsPower B → IsPower (A * B)
+power-product A B (a, e) (b, f) = (a + b, ap₂ _*_ e f ∙ sym (pow-add 2 a b))
+
+pub up-power : (e : ℤ) → IsPower (up e)
+up-power (pos k) = (k, refl)
+up-power (negsuc k) = (0, refl)
+
+pub down-power : (e : ℤ) → IsPower (down e)
+down-power (pos k) = (0, refl)
+down-power (negsuc k) = (suc k, refl)
+
+-- of two powers the one that is not less is a multiple of the other
+pub powers-divide : (A B : ℕ) → IsPower A → IsPower B → A < 2 * B → (t : ℕ) × (B ≡ t * A)
+powers-divide A B (a, e) (b, f) h =
+    let l : a < suc b = pow-below a (suc b) (rw (pow-succ' 2 b, ← e, ← f) h) in
+    let k : b ≡ b - a + a = omega arith in
+    (2 ^ (b - a), f ∙ ap (λ (n : ℕ). 2 ^ n) k ∙ pow-add 2 (b - a) a ∙ ap (λ (n : ℕ). 2 ^ (b - a) * n) (sym e))

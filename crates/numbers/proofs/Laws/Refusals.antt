@@ -1,17 +1,16 @@
--- The refusals 1 to 4 in the table's order: what `operationOf` is behind each test.
+-- The refusals 1 to 4 in the table's order: what `unlessRefused` is behind each test.
 use mathlib.Core.Path.{_≡_, refl}
 use mathlib.Core.Bool.{Bool, true, false, cond}
 use Prim.Native.Nat.{ℕ, _≤_, _<_}
 use lib.Dec.{eqb}
 use borrow.Author.Tests.{lt-ltb, le-ltb, le-leb, lt-leb}
 use Rattle.numbers.specs.Rounding.{taskOf, isPrecision, precisionOf}
-use Rattle.numbers.specs.Answer.{refused, rounded, unlessRefused, operationOf}
-use Rattle.numbers.specs.Fraction.{Fraction, value}
-use Rattle.numbers.specs.Number.{isWorking}
+use Rattle.numbers.specs.Answer.{Outcome, refused, unlessRefused}
 use Rattle.numbers.specs.declared.number.Number.{Number}
 use Rattle.numbers.specs.declared.task.Task.{Task}
+use Rattle.numbers.proofs.Laws.Tests.{range-true}
 
--- a task has the precision that it was made with
+-- a task has the precision that it was made with, and so one from 1 to 64
 pub task-precision : (code n : ℕ) → precisionOf (taskOf code n) ≡ n
 unfolding precisionOf taskOf
 task-precision code n =
@@ -21,30 +20,37 @@ task-precision code n =
     either true x y p q = p
     either false x y p q = q
 
-module _ (exact : Fraction → Fraction → Fraction) (a b : Number) (code n : ℕ) where
-  pub unknown-mode : 6 < code → refused 1 ≡ operationOf exact a b code n
-  unfolding operationOf unlessRefused
-  unknown-mode h = rw (lt-ltb 6 code h)
+pub task-range : (task : Task) (code n : ℕ) → task ≡ taskOf code n → 1 ≤ n → n ≤ 64 → (1 ≤ precisionOf task) × (precisionOf task ≤ 64)
+task-range task code n is n0 n1 = rw (is, task-precision code n) (n0, n1)
 
-  module _ (c : code ≤ 6) where
-    pub precision-zero : n < 1 → refused 2 ≡ operationOf exact a b code n
-    unfolding operationOf unlessRefused isPrecision
-    precision-zero h = rw (le-ltb 6 code c, lt-leb 1 n h)
+pub precision-range : (n : ℕ) → isPrecision n ≡ true → (1 ≤ n) × (n ≤ 64)
+unfolding isPrecision
+precision-range n h = range-true 1 64 n h
+
+module _ (last : ℕ) (fit : Number → Bool) (a b : Number) (code n : ℕ) (answer : Outcome) where
+  pub unknown-mode : last < code → refused 1 ≡ unlessRefused last fit a b code n answer
+  unfolding unlessRefused
+  unknown-mode h = rw (lt-ltb last code h)
+
+  module _ (c : code ≤ last) where
+    pub precision-zero : n < 1 → refused 2 ≡ unlessRefused last fit a b code n answer
+    unfolding unlessRefused isPrecision
+    precision-zero h = rw (le-ltb last code c, lt-leb 1 n h)
 
     module _ (n0 : 1 ≤ n) where
-      pub precision-above : 64 < n → refused 2 ≡ operationOf exact a b code n
-      unfolding operationOf unlessRefused isPrecision
-      precision-above h = rw (le-ltb 6 code c, le-leb 1 n n0, lt-leb n 64 h)
+      pub precision-above : 64 < n → refused 2 ≡ unlessRefused last fit a b code n answer
+      unfolding unlessRefused isPrecision
+      precision-above h = rw (le-ltb last code c, le-leb 1 n n0, lt-leb n 64 h)
 
       module _ (n1 : n ≤ 64) where
-        pub first-unfit : isWorking a ≡ false → refused 3 ≡ operationOf exact a b code n
-        unfolding operationOf unlessRefused isPrecision
-        first-unfit h = rw (le-ltb 6 code c, le-leb 1 n n0, le-leb n 64 n1, h)
+        pub first-unfit : fit a ≡ false → refused 3 ≡ unlessRefused last fit a b code n answer
+        unfolding unlessRefused isPrecision
+        first-unfit h = rw (le-ltb last code c, le-leb 1 n n0, le-leb n 64 n1, h)
 
-        pub second-unfit : isWorking a ≡ true → isWorking b ≡ false → refused 4 ≡ operationOf exact a b code n
-        unfolding operationOf unlessRefused isPrecision
-        second-unfit h k = rw (le-ltb 6 code c, le-leb 1 n n0, le-leb n 64 n1, h, k)
+        pub second-unfit : fit a ≡ true → fit b ≡ false → refused 4 ≡ unlessRefused last fit a b code n answer
+        unfolding unlessRefused isPrecision
+        second-unfit h k = rw (le-ltb last code c, le-leb 1 n n0, le-leb n 64 n1, h, k)
 
-        pub none-refused : isWorking a ≡ true → isWorking b ≡ true → rounded (taskOf code n) (exact (value a) (value b)) ≡ operationOf exact a b code n
-        unfolding operationOf unlessRefused isPrecision
-        none-refused h k = rw (le-ltb 6 code c, le-leb 1 n n0, le-leb n 64 n1, h, k)
+        pub none-refused : fit a ≡ true → fit b ≡ true → answer ≡ unlessRefused last fit a b code n answer
+        unfolding unlessRefused isPrecision
+        none-refused h k = rw (le-ltb last code c, le-leb 1 n n0, le-leb n 64 n1, h, k)

@@ -1,4 +1,4 @@
--- A whole number by its sign and its magnitude: how `signed` goes through sums, products and differences, and its order.
+-- A whole number by its sign and its magnitude: how `signed` goes through sums, products and differences, and its order; and the sign of a product.
 use mathlib.Core.Path.{_≡_, refl, sym, ap, _∙_}
 use mathlib.Core.Bool.{Bool, true, false, not, Bool·not-not}
 use Prim.Native.Nat.{ℕ, zero, suc, zero-le, suc-le-suc, _+_, _-_, _*_, _≤_, _<_}
@@ -36,6 +36,11 @@ unfolding signed
 signed-zero false = refl
 signed-zero true = refl
 
+-- only zero has the magnitude 0
+pub abs-zero : (z : ℤ) → natAbs z ≡ 0 → z ≡ pos 0
+abs-zero (pos a) e = ap pos e
+abs-zero (negsuc a) e = absurd (omega arith)
+
 pub signed-times : (s : Bool) (a d : ℕ) → signed s a *ℤ pos d ≡ signed s (a * d)
 unfolding signed
 signed-times false a d = refl
@@ -53,6 +58,21 @@ negative-product true true zero zero = refl
 negative-product true true zero (suc b) = ap (λ (n : ℕ). negℤ (pos n)) (zero-mul (suc b)) ∙ ap pos (sym (zero-mul (suc b)))
 negative-product true true (suc a) zero = ap (λ (n : ℕ). negℤ (pos n)) (mul-zero (suc a)) ∙ ap pos (sym (mul-zero (suc a)))
 negative-product true true (suc a) (suc b) = refl
+
+-- the sign of a product: of two of one sign, with a positive number, and with one sign twice
+pub unlike-same : (s : Bool) → unlike s s ≡ false
+unlike-same false = refl
+unlike-same true = refl
+
+pub unlike-plus : (s : Bool) → unlike s false ≡ s
+unlike-plus false = refl
+unlike-plus true = refl
+
+pub unlike-twice : (s t : Bool) → unlike (unlike s t) t ≡ s
+unlike-twice false false = refl
+unlike-twice false true = refl
+unlike-twice true false = refl
+unlike-twice true true = refl
 
 -- a - b of two naturals
 sub-down : (a b : ℕ) → b ≤ a → subℕ a b ≡ pos (a - b)
@@ -86,12 +106,12 @@ other-sign true (suc a) b h = go (decLt b (suc a))
         let e : suc a ≤ b = (let l : suc a < suc b = lt-of-not-le n in omega arith) in
         sub-down b (suc a) e ∙ ap pos (let z : b - suc a ≡ 0 = omega arith in z) ∙ sym (ap (λ (n : ℕ). negℤ (pos n)) (let z : suc a - b ≡ 0 = omega arith in z))
 
--- the magnitude of a difference
-neg-signed : (s : Bool) (a : ℕ) → negℤ (signed s a) ≡ signed (not s) a
+pub neg-signed : (s : Bool) (a : ℕ) → negℤ (signed s a) ≡ signed (not s) a
 unfolding signed
 neg-signed false a = refl
 neg-signed true a = negℤ-negℤ (pos a)
 
+-- the magnitude of a difference
 pub abs-difference : (s : Bool) (a b : ℕ) → natAbs (signed s a -ℤ signed s b) ≡ gap a b
 abs-difference s a b = rw (neg-signed s b) (go (decLe b a))
   where

@@ -1,12 +1,12 @@
--- Two tests are the same where each one's fact gives the other's.
+-- Two tests are the same where each one's fact gives the other's; and what the test of a range says.
 use mathlib.Core.Path.{_≡_, refl, sym, _∙_}
-use mathlib.Core.Bool.{Bool, true, false}
+use mathlib.Core.Bool.{Bool, true, false, _&&_, and-eq-true-iff}
 use Prim.Native.Nat.{ℕ, zero, suc, _≤_, _<_}
 use native.Mathlib.Omega.{arith}
 use native.Mathlib.Decide.{decLe, ℕ-discrete}
 use native.Mathlib.Nat.{lt-of-not-le}
 use lib.Dec.{leb, ltb, eqb}
-use borrow.Author.Tests.{ltb-true, lt-ltb, le-leb, lt-leb, eq-eqb, ne-eqb}
+use borrow.Author.Tests.{leb-true, ltb-true, lt-ltb, le-leb, lt-leb, eq-eqb, ne-eqb}
 
 pub leb-same : (a b c d : ℕ) → (a ≤ b → c ≤ d) → (c ≤ d → a ≤ b) → leb a b ≡ leb c d
 leb-same a b c d there back = go (decLe a b)
@@ -31,6 +31,10 @@ zero-same zero zero e = refl
 zero-same zero (suc y) e = absurd (omega (arith, ltb-true 0 0 (e ∙ lt-ltb 0 (suc y) (omega arith))))
 zero-same (suc x) zero e = absurd (omega (arith, ltb-true 0 0 (sym e ∙ lt-ltb 0 (suc x) (omega arith))))
 zero-same (suc x) (suc y) e = ne-eqb (suc x) 0 (λ (k : suc x ≡ 0). omega arith) ∙ sym (ne-eqb (suc y) 0 (λ (k : suc y ≡ 0). omega arith))
+
+-- n is from a to b
+pub range-true : (a b n : ℕ) → leb a n && leb n b ≡ true → (a ≤ n) × (n ≤ b)
+range-true a b n h = let both = and-eq-true-iff (leb a n) (leb n b) .0 h in (leb-true a n (both .0), leb-true n b (both .1))
 
 -- two tests that hold together are one
 pub one-test : (a b : Bool) → (a ≡ true → b ≡ true) → (b ≡ true → a ≡ true) → a ≡ b

@@ -102,7 +102,11 @@ value-alone n x y n0 x0 y0 e = go (natAbs (x .numerator)) refl
 pub same-outcome : (task : Task) (x y : Fraction) → IsFraction x → IsFraction y → 1 ≤ precisionOf task → Equal x y → rounded task x ≡ rounded task y
 same-outcome task x y x0 y0 n0 e = one-outcome task x y (value-alone (precisionOf task) x y n0 x0 y0 e)
 
--- equal fractions, one after the other
+-- equal fractions, the other way round and one after the other
+pub equal-back : (x y : Fraction) → Equal x y → Equal y x
+unfolding Equal
+equal-back x y e = sym e
+
 pub equal-through : (x y z : Fraction) → IsFraction x → IsFraction y → IsFraction z → Equal x y → Equal y z → Equal x z
 unfolding Equal IsFraction
 equal-through x y z x0 y0 z0 e f =

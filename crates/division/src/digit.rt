@@ -1,0 +1,84 @@
+// Steps 7 to 29: the halves of the divisor, and a digit with the remainder after it.
+ghost use mathlib.Core.Path.{_≡_};
+ghost use mathlib.Core.Bool.{true};
+ghost use Prim.Native.Nat.{_≤_};
+ghost use Rattle.numbers.specs.Answer.{outcome};
+ghost use Rattle.numbers.specs.Number.{isAdmissible};
+ghost use Rattle.numbers.specs.declared.number.Number.{Number};
+ghost use Rattle.numbers.specs.declared.task.Task.{Task};
+ghost use Rattle.division.specs.Run.{IsResult, IsTask, digitOf, lessOf, remainderAfter, digitStep};
+ghost use Rattle.division.specs.Steps.{afterStep};
+use super::line::difference;
+use super::line::product;
+use super::line::rounded;
+use super::tasks::EXACT_32;
+use super::tasks::EXACT_64;
+use super::tasks::TRUNC_32;
+use numbers::answer::Answer;
+use numbers::number::Number;
+use numbers::task::Task;
+
+// What the digits need of a divisor: its reciprocal and its two halves, steps 6 to 8.
+pub struct Divisor {
+    pub reciprocal: Answer,
+    pub high: Answer,
+    pub low: Answer,
+}
+
+// Step 7.
+pub(crate) fn high_half(d: Number) -> Answer
+    requires { ⌜ isAdmissible d ≡ true ⌝ }
+    ensures { λ r. ⌜ ((p : Number) (task : Task) → outcome r ≡ afterStep p d task 7) × IsResult (outcome r) ⌝ }
+{
+    rounded(Answer::Given(d), TRUNC_32)
+}
+
+// Step 8.
+pub(crate) fn low_half(d: Number, high: Answer) -> Answer
+    requires { ⌜ (isAdmissible d ≡ true) × ((p : Number) (task : Task) → outcome high ≡ afterStep p d task 7) × IsResult (outcome high) ⌝ }
+    ensures { λ r. ⌜ ((p : Number) (task : Task) → outcome r ≡ afterStep p d task 8) × IsResult (outcome r) ⌝ }
+{
+    difference(Answer::Given(d), high, EXACT_32)
+}
+
+// A digit of the remainder.
+pub(crate) fn digit_of(remainder: Answer, reciprocal: Answer, task: Task) -> Answer
+    requires { ⌜ IsResult (outcome remainder) × IsResult (outcome reciprocal) × IsTask task ⌝ }
+    ensures { λ r. ⌜ (outcome r ≡ digitOf task (outcome remainder) (outcome reciprocal)) × IsResult (outcome r) ⌝ }
+{
+    product(rounded(remainder, TRUNC_32), reciprocal, task)
+}
+
+// The remainder less the digit's product with a half of the divisor.
+pub(crate) fn less_product(remainder: Answer, digit: Answer, half: Answer) -> Answer
+    requires { ⌜ IsResult (outcome remainder) × IsResult (outcome digit) × IsResult (outcome half) ⌝ }
+    ensures { λ r. ⌜ (outcome r ≡ lessOf (outcome remainder) (outcome digit) (outcome half)) × IsResult (outcome r) ⌝ }
+{
+    difference(remainder, product(digit, half, EXACT_64), EXACT_64)
+}
+
+// The remainder after a digit.
+pub(crate) fn remainder_after(remainder: Answer, digit: Answer, divisor: Divisor) -> Answer
+    requires { ⌜ IsResult (outcome remainder) × IsResult (outcome digit) × IsResult (outcome (divisor .high)) × IsResult (outcome (divisor .low)) ⌝ }
+    ensures { λ r. ⌜ (outcome r ≡ remainderAfter (outcome remainder) (outcome digit) (outcome (divisor .high)) (outcome (divisor .low))) × IsResult (outcome r) ⌝ }
+{
+    let high = divisor.high;
+    let low = divisor.low;
+    less_product(less_product(remainder, digit, high), digit, low)
+}
+
+// One of four steps, counted from 0: the digit, its products with the halves of the divisor, and the
+// remainder less the first product.
+pub(crate) fn digit_step(remainder: Answer, digit: Answer, divisor: Divisor, wanted: u32) -> Answer
+    requires { ⌜ IsResult (outcome remainder) × IsResult (outcome digit) × IsResult (outcome (divisor .high)) × IsResult (outcome (divisor .low)) × (wanted ≤ 3) ⌝ }
+    ensures { λ r. ⌜ outcome r ≡ digitStep (outcome remainder) (outcome digit) (outcome (divisor .high)) (outcome (divisor .low)) wanted ⌝ }
+{
+    let high = divisor.high;
+    let low = divisor.low;
+    match wanted {
+        0 => digit,
+        1 => product(digit, high, EXACT_64),
+        2 => product(digit, low, EXACT_64),
+        _ => less_product(remainder, digit, high),
+    }
+}

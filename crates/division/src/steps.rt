@@ -1,0 +1,216 @@
+// All thirty-two steps: the value after any one of them, for board testers. A step that the wanted
+// one does not need is not worked out.
+ghost use mathlib.Core.Path.{_≡_};
+ghost use mathlib.Core.Bool.{true, false};
+ghost use Prim.Native.Nat.{_-_, _≤_};
+ghost use Rattle.numbers.specs.Answer.{outcome};
+ghost use Rattle.numbers.specs.Number.{isAdmissible};
+ghost use Rattle.numbers.specs.Rounding.{taskOf};
+ghost use Rattle.division.specs.Quotient.{isZero};
+ghost use Rattle.division.specs.Run.{IsResult, IsTask, laterStep, lastStep};
+ghost use Rattle.division.specs.Wanted.{stepOutcome, stepOf};
+ghost use Rattle.division.specs.Steps.{afterStep};
+use super::answer::Step;
+use super::digit::Divisor;
+use super::digit::digit_of;
+use super::digit::digit_step;
+use super::digit::high_half;
+use super::digit::less_product;
+use super::digit::low_half;
+use super::digit::remainder_after;
+use super::line::product;
+use super::line::rounded;
+use super::line::sum;
+use super::reciprocal::reciprocal_step;
+use super::tasks::AWAY_24;
+use super::tasks::EXACT_64;
+use super::tasks::STICKY_64;
+use super::tasks::TRUNC_24;
+use super::tasks::TRUNC_32;
+use numbers::answer::Answer;
+use numbers::number::Number;
+use numbers::number::is_admissible;
+use numbers::operation::LARGEST_PRECISION;
+use numbers::task::Task;
+use numbers::task::task_of;
+
+// The last mode code of a division, and the last step.
+const LAST_CODE: u32 = 5;
+
+pub const LAST_STEP: u32 = 32;
+
+// The value after the wanted step of p / d, or the lowest refusal that applies.
+pub fn step(p: Number, d: Number, code: u32, precision: u32, wanted: u32) -> Step
+    ensures { λ r. ⌜ stepOutcome r ≡ stepOf p d code precision wanted ⌝ }
+{
+    // What rows 3 to 5 ask.
+    let first_unfit = !is_admissible(p);
+    let second_unfit = !is_admissible(d);
+    let zero_divisor = is_zero(d);
+    if LAST_CODE < code {
+        return Step::UnknownMode;
+    }
+    if precision < 1 {
+        return Step::BadPrecision;
+    }
+    if LARGEST_PRECISION < precision {
+        return Step::BadPrecision;
+    }
+    if first_unfit {
+        return Step::FirstUnfit;
+    }
+    if second_unfit {
+        return Step::SecondUnfit;
+    }
+    if zero_divisor {
+        return Step::ZeroDivisor;
+    }
+    if wanted < 1 {
+        return Step::NoSuchStep;
+    }
+    if LAST_STEP < wanted {
+        return Step::NoSuchStep;
+    }
+    answered(after_step(p, d, code, precision, wanted))
+}
+
+fn is_zero(x: Number) -> bool
+    ensures { λ r. ⌜ r ≡ isZero x ⌝ }
+{
+    match x {
+        Number::Zero => true,
+        Number::Finite {
+            negative: _,
+            exponent: _,
+            significand: _,
+        } => false,
+    }
+}
+
+// The answer of an operation as the answer of a step. Refusals 1 to 4 do not come: the lines have
+// codes, precisions and operands that the operations take.
+fn answered(a: Answer) -> Step
+    ensures { λ r. ⌜ stepOutcome r ≡ outcome a ⌝ }
+{
+    match a {
+        Answer::Given(x) => Step::Given(x),
+        Answer::UnknownMode => Step::UnknownMode,
+        Answer::BadPrecision => Step::BadPrecision,
+        Answer::FirstUnfit => Step::FirstUnfit,
+        Answer::SecondUnfit => Step::SecondUnfit,
+        Answer::ExponentOutside => Step::ExponentOutside,
+        Answer::TooManyBits => Step::TooManyBits,
+    }
+}
+
+// The value after the wanted step, with nothing to refuse.
+fn after_step(p: Number, d: Number, code: u32, precision: u32, wanted: u32) -> Answer
+    requires { ⌜ (isAdmissible p ≡ true) × (isAdmissible d ≡ true) × (isZero d ≡ false) × (code ≤ 5) × (1 ≤ precision) × (precision ≤ 64) × (1 ≤ wanted) × (wanted ≤ 32) ⌝ }
+    ensures { λ r. ⌜ outcome r ≡ afterStep p d (taskOf code precision) wanted ⌝ }
+{
+    if wanted <= 6 {
+        return reciprocal_step(d, wanted);
+    }
+    if wanted == 7 {
+        return high_half(d);
+    }
+    if wanted == 8 {
+        return low_half(d, high_half(d));
+    }
+    digits_step(p, d, task_of(code, precision), wanted)
+}
+
+// The value after one of the steps 9 to 32. The reciprocal and the halves of the divisor are worked
+// out only for the steps that need them.
+fn digits_step(p: Number, d: Number, task: Task, wanted: u32) -> Answer
+    requires { ⌜ (isAdmissible p ≡ true) × (isAdmissible d ≡ true) × (isZero d ≡ false) × IsTask task × (9 ≤ wanted) × (wanted ≤ 32) ⌝ }
+    ensures { λ r. ⌜ outcome r ≡ afterStep p d task wanted ⌝ }
+{
+    let remainder = rounded(Answer::Given(p), EXACT_64);
+    if wanted == 9 {
+        return remainder;
+    }
+    if wanted == 10 {
+        return rounded(remainder, TRUNC_32);
+    }
+    let reciprocal = reciprocal_step(d, 6);
+    let q0 = digit_of(remainder, reciprocal, AWAY_24);
+    if wanted == 11 {
+        return q0;
+    }
+    let high = high_half(d);
+    if wanted == 12 {
+        return product(q0, high, EXACT_64);
+    }
+    if wanted == 14 {
+        return less_product(remainder, q0, high);
+    }
+    let low = low_half(d, high);
+    if wanted == 13 {
+        return product(q0, low, EXACT_64);
+    }
+    let divisor = Divisor {
+        reciprocal,
+        high,
+        low,
+    };
+    let remainder = remainder_after(remainder, q0, divisor);
+    if wanted == 15 {
+        return remainder;
+    }
+    later_step(q0, remainder, divisor, task, wanted)
+}
+
+// The value after one of the steps 16 to 32, from the first digit and the remainder after it.
+fn later_step(q0: Answer, remainder: Answer, divisor: Divisor, task: Task, wanted: u32) -> Answer
+    requires { ⌜ IsResult (outcome q0) × IsResult (outcome remainder) × IsResult (outcome (divisor .reciprocal)) × IsResult (outcome (divisor .high)) × IsResult (outcome (divisor .low)) × IsTask task × (16 ≤ wanted) × (wanted ≤ 32) ⌝ }
+    ensures { λ r. ⌜ outcome r ≡ laterStep task (outcome q0) (outcome remainder) (outcome (divisor .reciprocal)) (outcome (divisor .high)) (outcome (divisor .low)) (wanted - 16) ⌝ }
+{
+    if wanted == 16 {
+        return rounded(remainder, TRUNC_32);
+    }
+    let reciprocal = divisor.reciprocal;
+    let q1 = digit_of(remainder, reciprocal, AWAY_24);
+    if wanted <= 20 {
+        return digit_step(remainder, q1, divisor, wanted - 17);
+    }
+    let remainder = remainder_after(remainder, q1, divisor);
+    if wanted == 21 {
+        return remainder;
+    }
+    if wanted == 22 {
+        return rounded(remainder, TRUNC_32);
+    }
+    let q2 = digit_of(remainder, reciprocal, AWAY_24);
+    if wanted <= 26 {
+        return digit_step(remainder, q2, divisor, wanted - 23);
+    }
+    let remainder = remainder_after(remainder, q2, divisor);
+    if wanted == 27 {
+        return remainder;
+    }
+    if wanted == 28 {
+        return rounded(remainder, TRUNC_32);
+    }
+    let q3 = digit_of(remainder, reciprocal, TRUNC_24);
+    last_step(q0, q1, q2, q3, task, wanted)
+}
+
+// The value after one of the steps 29 to 32: the fourth digit and the sums.
+fn last_step(q0: Answer, q1: Answer, q2: Answer, q3: Answer, task: Task, wanted: u32) -> Answer
+    requires { ⌜ IsResult (outcome q0) × IsResult (outcome q1) × IsResult (outcome q2) × IsResult (outcome q3) × IsTask task × (29 ≤ wanted) × (wanted ≤ 32) ⌝ }
+    ensures { λ r. ⌜ outcome r ≡ lastStep task (outcome q0) (outcome q1) (outcome q2) (outcome q3) (wanted - 29) ⌝ }
+{
+    if wanted == 29 {
+        return q3;
+    }
+    let qq2 = sum(q2, q3, STICKY_64);
+    if wanted == 30 {
+        return qq2;
+    }
+    let qq1 = sum(qq2, q1, STICKY_64);
+    if wanted == 31 {
+        return qq1;
+    }
+    sum(qq1, q0, task)
+}

@@ -34,4 +34,5 @@ pub mod Sticky
 pub mod Digits
 -- All of them: every value is a result, and every step of admissible operands is given
 pub mod Results
+pub mod Failing
 pub mod Divided

@@ -2,4 +2,3 @@
 pub mod Lines
 pub mod Laws
 pub mod Theorem
-pub mod Known

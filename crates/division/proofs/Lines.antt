@@ -1,6 +1,6 @@
 -- The lines of the table, each as an equation between the values after its steps. They hold by working out the list.
 use mathlib.Core.Path.{_≡_, refl}
-use mathlib.Core.List.{[], _∷_, _++_}
+use mathlib.Core.List.{[], _∷_, _++_, map}
 use Prim.Native.Nat.{ℕ}
 use lib.ListN.{take, drop}
 use Rattle.numbers.specs.Fraction.{value, difference, product}
@@ -10,7 +10,7 @@ use Rattle.numbers.specs.declared.number.Number.{Number}
 use Rattle.numbers.specs.declared.task.Mode.the-variants.{Trunc, Away}
 use Rattle.numbers.specs.declared.task.Task.{Task}
 use Rattle.division.specs.Run.{digitOf, lessOf, digitSteps, sumSteps, laterSteps}
-use Rattle.division.specs.Steps.{seed, refined, lines, lineOf, lineOfBoth, resultAt, termOf, resultOf, workedOut, afterStep}
+use Rattle.division.specs.Steps.{seed, refined, Line, lines, lineOf, lineOfBoth, resultAt, termOf, resultOf, workedOut, afterStep}
 
 module _ (p d : Number) (task : Task) where
   abbrev at : ℕ → Outcome
@@ -86,6 +86,11 @@ module _ (p d : Number) (task : Task) where
       ++ at 28 ∷ at 29 ∷ sumSteps task (at 11) (at 17) (at 23) (at 29)
   unfolding afterStep workedOut lines resultAt termOf resultOf digitSteps digitOf lessOf sumSteps
   all-lines = refl
+
+  -- the results are those of the lines on the results themselves
+  pub own-results : map (λ (line : Line). resultOf (termOf p d (workedOut p d (lines task) [])) (line .expression) (line .task)) (lines task) ≡ workedOut p d (lines task) []
+  unfolding workedOut lines resultAt termOf resultOf
+  own-results = refl
 
   -- steps 16 to 32
   pub later-lines : take 17 (drop 15 (workedOut p d (lines task) [])) ≡ laterSteps task (at 11) (at 15) (at 6) (at 7) (at 8)

@@ -1,13 +1,13 @@
 -- The theorem that joins the steps to the quotient (`division`, at the end), from the laws of the steps.
-use mathlib.Core.Path.{_≡_, refl, sym, subst, _∙_}
+use mathlib.Core.Path.{_≡_, refl, sym, subst, ap, _∙_}
 use mathlib.Core.Bool.{Bool, true, false, not, cond, false≢true}
 use Prim.Native.Nat.{ℕ, zero, suc, _≤_}
 use native.Mathlib.Omega.{arith}
-use borrow.Author.Tests.{ltb-false}
+use borrow.Author.Tests.{ltb-false, le-leb}
 use lib.Dec.{ltb, lit≤}
 use lib.Ieee.{minus}
 use lib.IntN.{ℤ}
-use Rattle.numbers.specs.Answer.{Outcome, refused, rounded, unlessRefused}
+use Rattle.numbers.specs.Answer.{Outcome, given, refused, rounded, unlessUnknown, unlessRefused}
 use Rattle.numbers.specs.Fraction.{value, quotient}
 use Rattle.numbers.specs.Number.{isAdmissible}
 use Rattle.numbers.specs.Rounding.{byMode, taskOf, isPrecision, precisionOf}
@@ -15,14 +15,19 @@ use Rattle.numbers.specs.declared.number.Number.{Number}
 use Rattle.numbers.specs.declared.number.Number.the-variants.{Zero, Finite}
 use Rattle.numbers.specs.declared.task.Mode.{Mode}
 use Rattle.numbers.specs.declared.task.Mode.the-variants.{Trunc, Away, Near, Sticky, Up, Down}
-use Rattle.numbers.proofs.Laws.Refusals.{precision-range}
+use Rattle.numbers.proofs.Laws.Refusals.{precision-range, range-precision}
 use Rattle.numbers.proofs.Laws.Tests.{range-true}
-use Rattle.division.specs.Quotient.{isZero, unlessIndivisible, quotientOf}
+use Rattle.division.specs.Quotient.{isZero, quotientOutcome, unlessIndivisible, quotientOf}
 use Rattle.division.specs.Steps.{afterStep}
-use Rattle.division.specs.Theorem.{IsDivided, IsAnswer, Division}
-use Rattle.division.specs.Wanted.{isStep, stepOf}
+use Rattle.division.specs.Theorem.{IsDivided, IsTaken, IsAnswered, IsAnswer, Division}
+use Rattle.division.specs.Wanted.{stepOutcome, isStep, stepOf}
+use Rattle.division.specs.declared.answer.Quotient.{Quotient}
+use Rattle.division.specs.declared.answer.Quotient.the-variants as answer
+use Rattle.division.specs.declared.answer.Step.{Step}
+use Rattle.division.specs.declared.answer.Step.the-variants as step
 use Rattle.division.proofs.Laws.Admissible.{admissible-parts}
-use Rattle.division.proofs.Laws.Divided.{last-step, step-given}
+use Rattle.division.proofs.Laws.Divided.{last-step, no-step-fails, step-given}
+use Rattle.division.proofs.Laws.Divisible.{divisible}
 use Rattle.division.proofs.Laws.Line.{as-given}
 use Rattle.division.proofs.Laws.Results.{step-result}
 use Rattle.division.proofs.Laws.Scaled.{equal-scaled}
@@ -38,7 +43,8 @@ divided s b D range p mode n fit n0 n1 =
     record {
       seed-given = (first .number, line-1 p d (byMode mode n) ∙ first .step, equal-scaled (first .amount) (seed-scaled s b D));
       seed-near = seed-rule s (minus b 65535) D (range .top) (range .word);
-      no-step-fails = λ (k : ℕ) (k0 : 1 ≤ k) (k1 : k ≤ 32).
+      no-step-fails = no-step-fails s b D range p fit mode n n0 n1;
+      every-step-given = λ (k : ℕ) (k0 : 1 ≤ k) (k1 : k ≤ 32).
           let x = step-given s b D range p fit mode n n0 n1 k k0 k1 in
           (x .0, x .1, as-given (afterStep p d (byMode mode n) k) (x .0) (x .1) (step-result (byMode mode n) (n0, n1) p d k));
       rounded-once = last-step s b D range p fit mode n n0 n1;
@@ -69,18 +75,10 @@ step-range : (k : ℕ) → isStep k ≡ true → (1 ≤ k) × (k ≤ 32)
 unfolding isStep
 step-range k h = range-true 1 32 k h
 
--- no row from 1 to 5 applies
-record IsTaken (p d : Number) (code n : ℕ) : Type 0 where
-  mode : code ≤ 5
-  precise : (1 ≤ n) × (n ≤ 64)
-  dividend : isAdmissible p ≡ true
-  divisor : isAdmissible d ≡ true
-  nonzero : isZero d ≡ false
-
 -- two answers that are related where no row from 1 to 5 applies are related behind these rows
 unless-related : (R : Outcome → Outcome → Type 0) (p d : Number) (code n : ℕ) (a b : Outcome) → ((k : ℕ) → 1 ≤ k → k ≤ 5 → R (refused k) (refused k))
     → (IsTaken p d code n → R a b) → R (unlessIndivisible p d code n a) (unlessIndivisible p d code n b)
-unfolding unlessIndivisible unlessRefused
+unfolding unlessIndivisible unlessUnknown unlessRefused
 unless-related R p d code n a b refusals answers = go (ltb 5 code) (isPrecision n) (isAdmissible p) (isAdmissible d) (isZero d) refl refl refl refl refl
   where
     rows : Bool → Bool → Bool → Bool → Bool → Outcome → Outcome
@@ -109,7 +107,7 @@ module _ (p d : Number) (code n : ℕ) where
   unfolding IsAnswer
   coded-answer last k is k0 k1 =
       let m = coded is in
-      let x = m .2 .no-step-fails k k0 k1 in
+      let x = m .2 .every-step-given k k0 k1 in
       rw (m .1, x .1) (x .2)
 
   -- On any operands and codes step 32 is the quotient, refusals included.
@@ -139,7 +137,61 @@ module _ (p d : Number) (code n : ℕ) where
       unless-related (λ (x y : Outcome). IsAnswer 5 x) p d code n answer answer (λ (j : ℕ) (l : 1 ≤ j) (h : j ≤ 5). (l, h))
       (λ (is : IsTaken p d code n). rw (← coded-once is) (coded-answer 5 32 is (lit≤ tt) (lit≤ tt)))
 
+-- an answer that is read as a number is that number
+refused-given : (k : ℕ) (x : Number) → refused k ≡ given x → ⊥
+refused-given k x e = let z : _≡_ {A = ℕ} 0 1 = cc in omega arith
+
+given-step : (r : Step) (x : Number) → stepOutcome r ≡ given x → r ≡ step.Given x
+unfolding stepOutcome
+given-step (step.Given y) x e = let same : y ≡ x = cc in ap step.Given same
+given-step step.UnknownMode x e = absurd (refused-given 1 x e)
+given-step step.BadPrecision x e = absurd (refused-given 2 x e)
+given-step step.FirstUnfit x e = absurd (refused-given 3 x e)
+given-step step.SecondUnfit x e = absurd (refused-given 4 x e)
+given-step step.ZeroDivisor x e = absurd (refused-given 5 x e)
+given-step step.NoSuchStep x e = absurd (refused-given 6 x e)
+given-step step.ExponentOutside x e = absurd (refused-given 7 x e)
+given-step step.TooManyBits x e = absurd (refused-given 8 x e)
+
+given-quotient : (r : Quotient) (x : Number) → quotientOutcome r ≡ given x → r ≡ answer.Given x
+unfolding quotientOutcome
+given-quotient (answer.Given y) x e = let same : y ≡ x = cc in ap answer.Given same
+given-quotient answer.UnknownMode x e = absurd (refused-given 1 x e)
+given-quotient answer.BadPrecision x e = absurd (refused-given 2 x e)
+given-quotient answer.FirstUnfit x e = absurd (refused-given 3 x e)
+given-quotient answer.SecondUnfit x e = absurd (refused-given 4 x e)
+given-quotient answer.ZeroDivisor x e = absurd (refused-given 5 x e)
+
+-- where no row applies, the step entry gives the value of the table and the quotient entry the exact quotient rounded once
+module _ (p d : Number) (code n : ℕ) (is : IsTaken p d code n) where
+  taken : (x : Outcome) → x ≡ unlessIndivisible p d code n x
+  taken x = divisible p d code n x (is .mode) (range-precision n (is .precise .0) (is .precise .1)) (is .dividend) (is .divisor) (is .nonzero)
+
+  step-taken : (k : ℕ) → 1 ≤ k → k ≤ 32 → stepOf p d code n k ≡ afterStep p d (taskOf code n) k
+  unfolding stepOf isStep
+  step-taken k k0 k1 = rw (le-leb 1 k k0, le-leb k 32 k1) (sym (taken (afterStep p d (taskOf code n) k)))
+
+  quotient-taken : quotientOf p d code n ≡ rounded (taskOf code n) (quotient (value p) (value d))
+  unfolding quotientOf
+  quotient-taken = sym (taken (rounded (taskOf code n) (quotient (value p) (value d))))
+
+  table-given : (k : ℕ) → 1 ≤ k → k ≤ 32 → (x : Number) × (afterStep p d (taskOf code n) k ≡ given x)
+  table-given k k0 k1 = let m = coded p d code n is in let x = m .2 .every-step-given k k0 k1 in (x .0, rw (m .1) (x .1))
+
+  pub answered : IsAnswered p d code n
+  answered = record {
+    step-given = λ (k : ℕ) (k0 : 1 ≤ k) (k1 : k ≤ 32).
+        let x = table-given k k0 k1 in
+        let entry = step-taken k k0 k1 ∙ x .1 in
+        (x .0, x .1, entry, λ (r : Step) (e : stepOutcome r ≡ stepOf p d code n k). given-step r (x .0) (e ∙ entry));
+    quotient-given =
+        let x = table-given 32 (lit≤ tt) (lit≤ tt) in
+        let once = sym (coded-once p d code n is) ∙ x .1 in
+        let entry = quotient-taken ∙ once in
+        (x .0, once, entry, λ (r : Quotient) (e : quotientOutcome r ≡ quotientOf p d code n). given-quotient r (x .0) (e ∙ entry));
+  }
+
 -- The theorem, whole: for every admissible dividend, every admissible divisor but zero, the six modes and every precision from 1 to 64 the seed is near,
 -- no step fails its claim, every step's exponent is working and step 32 is the exact quotient rounded once; so 7 and 8 never leave a division.
 pub division : Division
-division = record { joined = joined; last-is-quotient = last-is-quotient; step-answers = step-answers; quotient-answers = quotient-answers }
+division = record { joined = joined; answered = answered; last-is-quotient = last-is-quotient; step-answers = step-answers; quotient-answers = quotient-answers }

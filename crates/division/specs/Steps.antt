@@ -1,18 +1,23 @@
 -- Document 01, "The thirty-two steps": the seed table's rule, the complement, the lines, and the value after each. "Where source document 001 and
 -- this text differ on the complement or the seed table, this text decides."
-use mathlib.Core.List.{List, [], _∷_, _++_}
+use mathlib.Core.Path.{_≡_}
+use mathlib.Core.Bool.{Bool, true, false, not, _&&_, _||_}
+use mathlib.Core.List.{List, [], _∷_, _++_, map}
 use Prim.Native.Nat.{ℕ, zero, suc, _+_, _*_, _/_, _%_, _^_}
+use lib.Dec.{eqb}
 use lib.Ieee.{up, down}
-use lib.IntN.{pos}
+use lib.IntN.{pos, natAbs}
 use lib.ListN.{getD}
 use Rattle.numbers.specs.Fraction.{Fraction, signed, value, sum, difference, product}
 use Rattle.numbers.specs.Answer.{Outcome, given, refused, rounded}
-use Rattle.numbers.specs.Rounding.{byMode, claim}
+use Rattle.numbers.specs.Number.{isWorkingExponent}
+use Rattle.numbers.specs.Rounding.{exponentOf, round, hasAtMostBits, byMode, claim}
 use Rattle.numbers.specs.declared.number.Number.{Number}
 use Rattle.numbers.specs.declared.number.Number.the-variants.{Zero, Finite}
 use Rattle.numbers.specs.declared.task.Mode.{Mode}
 use Rattle.numbers.specs.declared.task.Mode.the-variants.{Trunc, Away, Sticky}
 use Rattle.numbers.specs.declared.task.Task.{Task}
+use Rattle.numbers.specs.declared.task.Task.the-variants.{Round, Exact}
 
 -- the whole number nearest a / b. "No tie can occur."
 unfoldable pub nearest : ℕ → ℕ → ℕ
@@ -140,9 +145,8 @@ lines task =
     ∷ byTask task (ofBoth sum (step 31) (step 11))
     ∷ []
 
--- A line's exact value after its task. "A step fails its claim when, worked out by this list on the same operands, its exact value has
--- more bits than its exactness claim allows, or its result (exact claim: its value) has no working exponent. Zero never fails." Its result is then
--- refused, 8 or 7, and so is that of a line that takes it.
+-- A line's exact value after its task. Where the step fails its claim (`Fails`, below) its result is refused, 8 or 7, and so is that of a line that
+-- takes it.
 unfoldable pub lineOf : Task → (Number → Fraction) → Outcome → Outcome
 lineOf task exact (given x) = rounded task (exact x)
 lineOf task exact (refused k) = refused k
@@ -176,3 +180,38 @@ workedOut p d (line ∷ rest) results = workedOut p d rest (results ++ (resultOf
 -- the value after step k
 unfoldable pub afterStep : Number → Number → Task → ℕ → Outcome
 afterStep p d task k = resultAt (workedOut p d (lines task) []) k
+
+-- "A step fails its claim when, worked out by this list on the same operands, its exact value has more bits than its exactness claim allows, or its
+-- result (exact claim: its value) has no working exponent. Zero never fails."
+unfoldable pub isOutside : Number → Bool
+isOutside Zero = false
+isOutside (Finite negative e S) = not (isWorkingExponent e)
+
+-- does the exact value x fail the task?
+unfoldable pub failsTask : Task → Fraction → Bool
+failsTask (Round rounding) x = isOutside (round (rounding .mode) (rounding .precision) x)
+failsTask (Exact claim) x =
+    let a = natAbs (x .numerator) in
+    let b = x .denominator in
+    not (eqb a 0) && (not (hasAtMostBits (claim .precision) a b) || not (isWorkingExponent (exponentOf a b)))
+
+-- does a line fail? One that takes a result that is refused has no exact value; it is the earlier step that fails.
+unfoldable pub failsOf : Task → (Number → Fraction) → Outcome → Bool
+failsOf task exact (given x) = failsTask task (exact x)
+failsOf task exact (refused k) = false
+
+unfoldable pub failsOfBoth : Task → (Fraction → Fraction → Fraction) → Outcome → Outcome → Bool
+failsOfBoth task exact (given x) (given y) = failsTask task (exact (value x) (value y))
+failsOfBoth task exact (given x) (refused k) = false
+failsOfBoth task exact (refused k) y = false
+
+unfoldable pub fails : (Term → Outcome) → Expression → Task → Bool
+fails outcome (of exact a) task = failsOf task exact (outcome a)
+fails outcome (ofBoth exact a b) task = failsOfBoth task exact (outcome a) (outcome b)
+
+-- step k fails its claim
+unfoldable pub Fails : Number → Number → Task → ℕ → Type 0
+Fails p d task zero = ⊥
+Fails p d task (suc k) =
+    let outcome = termOf p d (workedOut p d (lines task) []) in
+    getD (map (λ (line : Line). fails outcome (line .expression) (line .task)) (lines task)) k false ≡ true

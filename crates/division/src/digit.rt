@@ -8,18 +8,18 @@ ghost use Rattle.numbers.specs.declared.number.Number.{Number};
 ghost use Rattle.numbers.specs.declared.task.Task.{Task};
 ghost use Rattle.division.specs.Run.{IsResult, IsTask, digitOf, lessOf, remainderAfter, digitStep};
 ghost use Rattle.division.specs.Steps.{afterStep};
-use super::line::difference;
-use super::line::product;
+use super::line::combined;
 use super::line::rounded;
 use super::tasks::EXACT_32;
 use super::tasks::EXACT_64;
 use super::tasks::TRUNC_32;
 use numbers::answer::Answer;
 use numbers::number::Number;
+use numbers::operation::Operation;
 use numbers::task::Task;
 
 // What the digits need of a divisor: its reciprocal and its two halves, steps 6 to 8.
-pub struct Divisor {
+pub(crate) struct Divisor {
     pub reciprocal: Answer,
     pub high: Answer,
     pub low: Answer,
@@ -38,7 +38,7 @@ pub(crate) fn low_half(d: Number, high: Answer) -> Answer
     requires { ⌜ (isAdmissible d ≡ true) × ((p : Number) (task : Task) → outcome high ≡ afterStep p d task 7) × IsResult (outcome high) ⌝ }
     ensures { λ r. ⌜ ((p : Number) (task : Task) → outcome r ≡ afterStep p d task 8) × IsResult (outcome r) ⌝ }
 {
-    difference(Answer::Given(d), high, EXACT_32)
+    combined(Operation::Difference, Answer::Given(d), high, EXACT_32)
 }
 
 // A digit of the remainder.
@@ -46,7 +46,8 @@ pub(crate) fn digit_of(remainder: Answer, reciprocal: Answer, task: Task) -> Ans
     requires { ⌜ IsResult (outcome remainder) × IsResult (outcome reciprocal) × IsTask task ⌝ }
     ensures { λ r. ⌜ (outcome r ≡ digitOf task (outcome remainder) (outcome reciprocal)) × IsResult (outcome r) ⌝ }
 {
-    product(rounded(remainder, TRUNC_32), reciprocal, task)
+    let upper = rounded(remainder, TRUNC_32);
+    combined(Operation::Product, upper, reciprocal, task)
 }
 
 // The remainder less the digit's product with a half of the divisor.
@@ -54,7 +55,8 @@ pub(crate) fn less_product(remainder: Answer, digit: Answer, half: Answer) -> An
     requires { ⌜ IsResult (outcome remainder) × IsResult (outcome digit) × IsResult (outcome half) ⌝ }
     ensures { λ r. ⌜ (outcome r ≡ lessOf (outcome remainder) (outcome digit) (outcome half)) × IsResult (outcome r) ⌝ }
 {
-    difference(remainder, product(digit, half, EXACT_64), EXACT_64)
+    let product = combined(Operation::Product, digit, half, EXACT_64);
+    combined(Operation::Difference, remainder, product, EXACT_64)
 }
 
 // The remainder after a digit.
@@ -77,8 +79,8 @@ pub(crate) fn digit_step(remainder: Answer, digit: Answer, divisor: Divisor, wan
     let low = divisor.low;
     match wanted {
         0 => digit,
-        1 => product(digit, high, EXACT_64),
-        2 => product(digit, low, EXACT_64),
+        1 => combined(Operation::Product, digit, high, EXACT_64),
+        2 => combined(Operation::Product, digit, low, EXACT_64),
         _ => less_product(remainder, digit, high),
     }
 }

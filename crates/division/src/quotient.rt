@@ -17,7 +17,9 @@ pub fn divide(p: Number, d: Number, code: u32, precision: u32) -> Quotient
         Step::BadPrecision => Quotient::BadPrecision,
         Step::FirstUnfit => Quotient::FirstUnfit,
         Step::SecondUnfit => Quotient::SecondUnfit,
-        // Refusal 5. 6, 7 and 8 would fall here too and never come: no step fails its claim.
-        _ => Quotient::ZeroDivisor,
+        // 6, 7 and 8 never come: there is a step 32, and no step fails its claim.
+        Step::ZeroDivisor | Step::NoSuchStep | Step::ExponentOutside | Step::TooManyBits => {
+            Quotient::ZeroDivisor
+        }
     }
 }

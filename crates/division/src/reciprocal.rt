@@ -11,8 +11,7 @@ ghost use Rattle.numbers.specs.declared.task.Task.{Task};
 ghost use Rattle.division.specs.Quotient.{isZero};
 ghost use Rattle.division.specs.Run.{IsResult, HasComplement};
 ghost use Rattle.division.specs.Steps.{refined, lineOfBoth, afterStep};
-use super::line::difference;
-use super::line::product;
+use super::line::combined;
 use super::line::rounded;
 use super::seed::seed;
 use super::tasks::AWAY_32;
@@ -20,6 +19,7 @@ use super::tasks::EXACT_64;
 use super::tasks::TRUNC_32;
 use numbers::answer::Answer;
 use numbers::number::Number;
+use numbers::operation::Operation;
 
 // 2 − 2^−31.
 const TWO_LESS: Number = Number::Finite {
@@ -41,7 +41,7 @@ pub(crate) fn reciprocal_step(d: Number, wanted: u32) -> Answer
         return dr;
     }
     let s = seed(d);
-    let t = product(s, dr, AWAY_32);
+    let t = combined(Operation::Product, s, dr, AWAY_32);
     if wanted == 3 {
         return t;
     }
@@ -49,7 +49,7 @@ pub(crate) fn reciprocal_step(d: Number, wanted: u32) -> Answer
     if wanted == 4 {
         return s;
     }
-    let t = product(s, dr, AWAY_32);
+    let t = combined(Operation::Product, s, dr, AWAY_32);
     if wanted == 5 {
         return t;
     }
@@ -61,6 +61,6 @@ fn refined(s: Answer, t: Answer) -> Answer
     requires { ⌜ IsResult (outcome s) × IsResult (outcome t) × HasComplement (outcome t) ⌝ }
     ensures { λ r. ⌜ (outcome r ≡ lineOfBoth (byMode Trunc 32) refined (outcome s) (outcome t)) × IsResult (outcome r) ⌝ }
 {
-    let c = difference(Answer::Given(TWO_LESS), t, EXACT_64);
-    product(s, c, TRUNC_32)
+    let c = combined(Operation::Difference, Answer::Given(TWO_LESS), t, EXACT_64);
+    combined(Operation::Product, s, c, TRUNC_32)
 }

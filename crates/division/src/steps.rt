@@ -5,10 +5,9 @@ ghost use mathlib.Core.Bool.{true, false};
 ghost use Prim.Native.Nat.{_-_, _≤_};
 ghost use Rattle.numbers.specs.Answer.{outcome};
 ghost use Rattle.numbers.specs.Number.{isAdmissible};
-ghost use Rattle.numbers.specs.Rounding.{taskOf};
 ghost use Rattle.division.specs.Quotient.{isZero};
 ghost use Rattle.division.specs.Run.{IsResult, IsTask, laterStep, lastStep};
-ghost use Rattle.division.specs.Wanted.{stepOutcome, stepOf};
+ghost use Rattle.division.specs.Wanted.{stepOutcome, isStep, stepOf};
 ghost use Rattle.division.specs.Steps.{afterStep};
 use super::answer::Step;
 use super::digit::Divisor;
@@ -18,9 +17,8 @@ use super::digit::high_half;
 use super::digit::less_product;
 use super::digit::low_half;
 use super::digit::remainder_after;
-use super::line::product;
+use super::line::combined;
 use super::line::rounded;
-use super::line::sum;
 use super::reciprocal::reciprocal_step;
 use super::tasks::AWAY_24;
 use super::tasks::EXACT_64;
@@ -30,8 +28,9 @@ use super::tasks::TRUNC_32;
 use numbers::answer::Answer;
 use numbers::number::Number;
 use numbers::number::is_admissible;
-use numbers::operation::LARGEST_PRECISION;
+use numbers::operation::Operation;
 use numbers::task::Task;
+use numbers::task::is_precision;
 use numbers::task::task_of;
 
 // The last mode code of a division, and the last step.
@@ -43,17 +42,16 @@ pub const LAST_STEP: u32 = 32;
 pub fn step(p: Number, d: Number, code: u32, precision: u32, wanted: u32) -> Step
     ensures { λ r. ⌜ stepOutcome r ≡ stepOf p d code precision wanted ⌝ }
 {
-    // What rows 3 to 5 ask.
+    // What rows 2 to 6 ask.
+    let imprecise = !is_precision(precision);
     let first_unfit = !is_admissible(p);
     let second_unfit = !is_admissible(d);
     let zero_divisor = is_zero(d);
+    let unknown_step = !is_step(wanted);
     if LAST_CODE < code {
         return Step::UnknownMode;
     }
-    if precision < 1 {
-        return Step::BadPrecision;
-    }
-    if LARGEST_PRECISION < precision {
+    if imprecise {
         return Step::BadPrecision;
     }
     if first_unfit {
@@ -65,13 +63,20 @@ pub fn step(p: Number, d: Number, code: u32, precision: u32, wanted: u32) -> Ste
     if zero_divisor {
         return Step::ZeroDivisor;
     }
-    if wanted < 1 {
+    if unknown_step {
         return Step::NoSuchStep;
     }
-    if LAST_STEP < wanted {
-        return Step::NoSuchStep;
+    answered(after_step(p, d, task_of(code, precision), wanted))
+}
+
+// Is there such a step: 1 to 32?
+fn is_step(wanted: u32) -> bool
+    ensures { λ r. ⌜ r ≡ isStep wanted ⌝ }
+{
+    if 1 <= wanted {
+        return wanted <= LAST_STEP;
     }
-    answered(after_step(p, d, code, precision, wanted))
+    false
 }
 
 fn is_zero(x: Number) -> bool
@@ -104,9 +109,9 @@ fn answered(a: Answer) -> Step
 }
 
 // The value after the wanted step, with nothing to refuse.
-fn after_step(p: Number, d: Number, code: u32, precision: u32, wanted: u32) -> Answer
-    requires { ⌜ (isAdmissible p ≡ true) × (isAdmissible d ≡ true) × (isZero d ≡ false) × (code ≤ 5) × (1 ≤ precision) × (precision ≤ 64) × (1 ≤ wanted) × (wanted ≤ 32) ⌝ }
-    ensures { λ r. ⌜ outcome r ≡ afterStep p d (taskOf code precision) wanted ⌝ }
+fn after_step(p: Number, d: Number, task: Task, wanted: u32) -> Answer
+    requires { ⌜ (isAdmissible p ≡ true) × (isAdmissible d ≡ true) × (isZero d ≡ false) × IsTask task × (1 ≤ wanted) × (wanted ≤ 32) ⌝ }
+    ensures { λ r. ⌜ outcome r ≡ afterStep p d task wanted ⌝ }
 {
     if wanted <= 6 {
         return reciprocal_step(d, wanted);
@@ -117,7 +122,7 @@ fn after_step(p: Number, d: Number, code: u32, precision: u32, wanted: u32) -> A
     if wanted == 8 {
         return low_half(d, high_half(d));
     }
-    digits_step(p, d, task_of(code, precision), wanted)
+    digits_step(p, d, task, wanted)
 }
 
 // The value after one of the steps 9 to 32. The reciprocal and the halves of the divisor are worked
@@ -140,14 +145,14 @@ fn digits_step(p: Number, d: Number, task: Task, wanted: u32) -> Answer
     }
     let high = high_half(d);
     if wanted == 12 {
-        return product(q0, high, EXACT_64);
+        return combined(Operation::Product, q0, high, EXACT_64);
     }
     if wanted == 14 {
         return less_product(remainder, q0, high);
     }
     let low = low_half(d, high);
     if wanted == 13 {
-        return product(q0, low, EXACT_64);
+        return combined(Operation::Product, q0, low, EXACT_64);
     }
     let divisor = Divisor {
         reciprocal,
@@ -204,13 +209,13 @@ fn last_step(q0: Answer, q1: Answer, q2: Answer, q3: Answer, task: Task, wanted:
     if wanted == 29 {
         return q3;
     }
-    let qq2 = sum(q2, q3, STICKY_64);
+    let qq2 = combined(Operation::Sum, q2, q3, STICKY_64);
     if wanted == 30 {
         return qq2;
     }
-    let qq1 = sum(qq2, q1, STICKY_64);
+    let qq1 = combined(Operation::Sum, qq2, q1, STICKY_64);
     if wanted == 31 {
         return qq1;
     }
-    sum(qq1, q0, task)
+    combined(Operation::Sum, qq1, q0, task)
 }

@@ -3,11 +3,11 @@
 use super::buffer;
 use super::number;
 use super::out;
+use codes::code::Reading;
+use codes::code::Writing;
 use division::answer::Quotient;
 use division::answer::Step;
 use numbers::answer::Answer;
-use numbers::code::Reading;
-use numbers::code::Writing;
 use numbers::number::Number;
 
 // A number, or the row that refused.

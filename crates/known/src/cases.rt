@@ -2,10 +2,10 @@
 use super::answer;
 use super::arithmetic;
 use super::arithmetic::Operation;
-use super::codes;
-use super::codes::Entry;
-use super::codes::Format;
 use super::divisions;
+use super::formats;
+use super::formats::Entry;
+use super::formats::Format;
 use super::line;
 use super::line::Cursor;
 use super::line::Line;
@@ -30,16 +30,16 @@ pub fn run(text: &Line) {
         return divisions::run_step(text, next);
     }
     if let Place::Past(next) = line::past(text, start, b"read10 ") {
-        return codes::run(text, next, Entry::Read(Format::DoubleExtended));
+        return formats::run(text, next, Entry::Read(Format::DoubleExtended));
     }
     if let Place::Past(next) = line::past(text, start, b"read8 ") {
-        return codes::run(text, next, Entry::Read(Format::Binary64));
+        return formats::run(text, next, Entry::Read(Format::Binary64));
     }
     if let Place::Past(next) = line::past(text, start, b"write10 ") {
-        return codes::run(text, next, Entry::Write(Format::DoubleExtended));
+        return formats::run(text, next, Entry::Write(Format::DoubleExtended));
     }
     if let Place::Past(next) = line::past(text, start, b"write8 ") {
-        return codes::run(text, next, Entry::Write(Format::Binary64));
+        return formats::run(text, next, Entry::Write(Format::Binary64));
     }
     answer::print_no_case();
 }

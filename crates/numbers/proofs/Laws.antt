@@ -20,23 +20,14 @@ pub mod Fits
 pub mod Bits
 -- The code's own forms: biased exponents, two-word magnitudes, magnitudes with their top bit set, operands, alignment, refusals
 pub mod Bias
+pub mod Signed
 pub mod Words
 pub mod Wide
 pub mod Top
 pub mod Operands
+pub mod Same
 pub mod Negated
 pub mod Sum
 pub mod Aligned
 pub mod Refusals
--- Codes: the field of an exponent, the number with a code's value, little-endian bytes, the parts of a code, the code that equals a number, what the
--- entries owe, and the theorems on reading and writing
-pub mod Places
-pub mod Decoded
-pub mod Bytes
-pub mod Leading
-pub mod Parts
-pub mod Packed
-pub mod Entries
-pub mod Codes
--- The binary64 code is that of IEEE 754
-pub mod Ieee
+pub mod Operations

@@ -5,11 +5,13 @@ use lib.Dec.{ltb, eqb}
 use lib.IntN.{natAbs}
 use Rattle.numbers.specs.Number.{isWorkingExponent, isWorking}
 use Rattle.numbers.specs.Fraction.{Fraction, value, sum, difference, product}
-use Rattle.numbers.specs.Rounding.{exponentOf, round, hasAtMostBits, taskOf, isPrecision}
+use Rattle.numbers.specs.Rounding.{exponentOf, round, hasAtMostBits, taskOf, precisionOf, isPrecision}
 use Rattle.numbers.specs.declared.answer.Answer.{Answer}
 use Rattle.numbers.specs.declared.answer.Answer.the-variants.{Given, UnknownMode, BadPrecision, FirstUnfit, SecondUnfit, ExponentOutside, TooManyBits}
 use Rattle.numbers.specs.declared.number.Number.{Number}
 use Rattle.numbers.specs.declared.number.Number.the-variants.{Zero, Finite}
+use Rattle.numbers.specs.declared.operation.Operation.{Operation}
+use Rattle.numbers.specs.declared.operation.Operation.the-variants.{Sum, Difference, Product}
 use Rattle.numbers.specs.declared.task.Mode.the-variants.{Trunc}
 use Rattle.numbers.specs.declared.task.Task.{Task}
 use Rattle.numbers.specs.declared.task.Task.the-variants.{Round, Exact}
@@ -50,26 +52,45 @@ unfoldable pub rounded : Task → Fraction → Outcome
 rounded (Round rounding) x = checked (round (rounding .mode) (rounding .precision) x)
 rounded (Exact claim) x = claimed (claim .precision) x
 
--- Rows 1 to 4, for operands that are judged by `fit` and codes up to `lastCode`: mode code, precision, first operand, second operand.
+-- Rows 2 to 4, for operands that are judged by `fit`: precision, first operand, second operand.
 -- "The lowest number that applies is returned, and none where no row applies."
-unfoldable pub unlessRefused : ℕ → (Number → Bool) → Number → Number → ℕ → ℕ → Outcome → Outcome
-unlessRefused lastCode fit a b code n answer =
-    cond (ltb lastCode code) (refused 1)
-    (cond (not (isPrecision n)) (refused 2)
+unfoldable pub unlessRefused : (Number → Bool) → Number → Number → ℕ → Outcome → Outcome
+unlessRefused fit a b n answer =
+    cond (not (isPrecision n)) (refused 2)
     (cond (not (fit a)) (refused 3)
     (cond (not (fit b)) (refused 4)
-    answer)))
+    answer))
 
--- "Add, subtract and multiply take working numbers and code 0 to 6"
-unfoldable pub operationOf : (Fraction → Fraction → Fraction) → Number → Number → ℕ → ℕ → Outcome
-operationOf exact a b code n = unlessRefused 6 isWorking a b code n (rounded (taskOf code n) (exact (value a) (value b)))
+-- Row 1, for codes up to `lastCode`: "mode code above 6; for divide and steps above 5"
+unfoldable pub unlessUnknown : ℕ → ℕ → Outcome → Outcome
+unlessUnknown lastCode code answer = cond (ltb lastCode code) (refused 1) answer
 
--- what add, subtract and multiply answer
+-- the exact operation that a case of the enum `Operation` names
+abbrev pub exactOf : Operation → Fraction → Fraction → Fraction
+exactOf Sum = sum
+exactOf Difference = difference
+exactOf Product = product
+
+-- What an operation by its task answers: "Add, subtract and multiply take working numbers"
+unfoldable pub operationOf : (Fraction → Fraction → Fraction) → Number → Number → Task → Outcome
+operationOf exact a b task = unlessRefused isWorking a b (precisionOf task) (rounded task (exact (value a) (value b)))
+
+-- What a number by itself after a task is: rows 2 and 3, of the "only" operand.
+unfoldable pub roundingOf : Number → Task → Outcome
+roundingOf x task =
+    cond (not (isPrecision (precisionOf task))) (refused 2)
+    (cond (not (isWorking x)) (refused 3)
+    (rounded task (value x)))
+
+-- "and code 0 to 6": what add, subtract and multiply answer
+unfoldable pub codedOf : (Fraction → Fraction → Fraction) → Number → Number → ℕ → ℕ → Outcome
+codedOf exact a b code n = unlessUnknown 6 code (operationOf exact a b (taskOf code n))
+
 unfoldable pub sumOf : Number → Number → ℕ → ℕ → Outcome
-sumOf a b code n = operationOf sum a b code n
+sumOf a b code n = codedOf sum a b code n
 
 unfoldable pub differenceOf : Number → Number → ℕ → ℕ → Outcome
-differenceOf a b code n = operationOf difference a b code n
+differenceOf a b code n = codedOf difference a b code n
 
 unfoldable pub productOf : Number → Number → ℕ → ℕ → Outcome
-productOf a b code n = operationOf product a b code n
+productOf a b code n = codedOf product a b code n

@@ -1,14 +1,10 @@
 -- What a reader must believe of the crate `numbers`, in document 01's order: which numbers are fit (Number), exact fractions and a number's
--- value (Fraction), rounding to n bits (Rounding), the task, the refusals and what each operation answers (Answer), the two formats and what reading
--- and writing a code answer (Codes).
--- Grid and Layout have the terms that the laws of rounding and of codes are stated in, and Words those of private contracts; no promise of a public
--- function cites them.
+-- value (Fraction), rounding to n bits (Rounding), the task, the refusals and what each operation answers (Answer).
+-- Grid has the terms that the laws of rounding are stated in, and Words those of private contracts; no promise of a public function cites them.
 -- Definitions only; the laws stand in proofs/Laws.
 pub mod Number
 pub mod Fraction
 pub mod Rounding
 pub mod Answer
-pub mod Codes
 pub mod Grid
-pub mod Layout
 pub mod Words

@@ -5,12 +5,10 @@ use Prim.Native.Nat.{ℕ, _+_, _-_, _*_, _/_, _%_, _^_, _≤_, _<_}
 use lib.Dec.{eqb}
 use lib.IntN.{ℤ}
 use Rattle.numbers.specs.Answer.{Outcome, checked, judged}
-use Rattle.numbers.specs.Fraction.{Fraction, signed, sum, difference, product}
+use Rattle.numbers.specs.Fraction.{Fraction, signed}
 use Rattle.numbers.specs.Number.{isWorkingExponent}
 use Rattle.numbers.specs.Rounding.{wholeOf, placed}
 use Rattle.numbers.specs.declared.operand.Operand.{Operand}
-use Rattle.numbers.specs.declared.operation.Operation.{Operation}
-use Rattle.numbers.specs.declared.operation.Operation.the-variants.{Sum, Difference, Product}
 use Rattle.numbers.specs.declared.task.Mode.{Mode}
 use Rattle.numbers.specs.declared.task.Mode.the-variants.{Trunc}
 
@@ -56,9 +54,3 @@ pub record IsAligned (large small : Operand) : Type 0 where
   pub small-word : small .significand < 2 ^ 64
   pub larger : small .significand ≤ large .significand * 2 ^ (large .exponent - small .exponent)
   pub normal : 0 < large .significand → 2 ^ 63 ≤ large .significand
-
--- the exact operation that a case of the enum `Operation` names
-unfoldable pub exactOf : Operation → Fraction → Fraction → Fraction
-exactOf Sum = sum
-exactOf Difference = difference
-exactOf Product = product

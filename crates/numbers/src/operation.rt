@@ -1,13 +1,13 @@
-// Add, subtract and multiply: any two numbers, any mode code and precision, and always an answer.
-// The operands are working numbers, the codes 0 to 6; anything else is refused.
+// Add, subtract and multiply: any two numbers and any task, or any mode code and precision, and always
+// an answer. The operands are working numbers, the codes 0 to 6; anything else is refused.
 ghost use mathlib.Core.Path.{_≡_};
 ghost use mathlib.Core.Bool.{true};
 ghost use Prim.Native.Nat.{_≤_};
 ghost use Rattle.numbers.specs.Rounding.{precisionOf};
-ghost use Rattle.numbers.specs.Answer.{outcome, rounded, operationOf, sumOf, differenceOf, productOf};
+ghost use Rattle.numbers.specs.Answer.{outcome, rounded, exactOf, operationOf, roundingOf, codedOf, sumOf, differenceOf, productOf};
 ghost use Rattle.numbers.specs.Fraction.{value, product};
 ghost use Rattle.numbers.specs.Number.{isWorking};
-ghost use Rattle.numbers.specs.Words.{operandValue, IsOperand, exactOf};
+ghost use Rattle.numbers.specs.Words.{operandValue, IsOperand};
 use super::answer::Answer;
 use super::number::Number;
 use super::number::is_working;
@@ -17,52 +17,59 @@ use super::operand::operand_of;
 use super::rounding::rounded;
 use super::sum::rounded_sum;
 use super::task::Task;
+use super::task::is_precise;
 use super::task::task_of;
 use super::words;
+use super::words::Words;
 
-// The last mode code, and the largest precision.
+// The last mode code.
 const LAST_CODE: u32 = 6;
 
-pub const LARGEST_PRECISION: u32 = 64;
+// What is added to an operand's exponent where its significand is a two-word magnitude.
+const EXPONENT_STEP: u32 = 65_598;
 
 // a + b.
 pub fn add(a: Number, b: Number, code: u32, precision: u32) -> Answer
     ensures { λ r. ⌜ outcome r ≡ sumOf a b code precision ⌝ }
 {
-    operate(Operation::Sum, a, b, code, precision)
+    coded(Operation::Sum, a, b, code, precision)
 }
 
 // a − b.
 pub fn subtract(a: Number, b: Number, code: u32, precision: u32) -> Answer
     ensures { λ r. ⌜ outcome r ≡ differenceOf a b code precision ⌝ }
 {
-    operate(Operation::Difference, a, b, code, precision)
+    coded(Operation::Difference, a, b, code, precision)
 }
 
 // a × b.
 pub fn multiply(a: Number, b: Number, code: u32, precision: u32) -> Answer
     ensures { λ r. ⌜ outcome r ≡ productOf a b code precision ⌝ }
 {
-    operate(Operation::Product, a, b, code, precision)
+    coded(Operation::Product, a, b, code, precision)
 }
 
-enum Operation {
+// The operation by the task that a mode code and a precision name.
+fn coded(operation: Operation, a: Number, b: Number, code: u32, precision: u32) -> Answer
+    ensures { λ r. ⌜ outcome r ≡ codedOf (exactOf operation) a b code precision ⌝ }
+{
+    if LAST_CODE < code {
+        return Answer::UnknownMode;
+    }
+    operate(operation, a, b, task_of(code, precision))
+}
+
+pub enum Operation {
     Sum,
     Difference,
     Product,
 }
 
-// The refusals in the order of document 01's table, and then the operation.
-fn operate(operation: Operation, a: Number, b: Number, code: u32, precision: u32) -> Answer
-    ensures { λ r. ⌜ outcome r ≡ operationOf (exactOf operation) a b code precision ⌝ }
+// a + b, a − b or a × b by a task.
+pub fn operate(operation: Operation, a: Number, b: Number, task: Task) -> Answer
+    ensures { λ r. ⌜ outcome r ≡ operationOf (exactOf operation) a b task ⌝ }
 {
-    if LAST_CODE < code {
-        return Answer::UnknownMode;
-    }
-    if precision < 1 {
-        return Answer::BadPrecision;
-    }
-    if LARGEST_PRECISION < precision {
+    if !is_precise(task) {
         return Answer::BadPrecision;
     }
     if !is_working(a) {
@@ -71,7 +78,20 @@ fn operate(operation: Operation, a: Number, b: Number, code: u32, precision: u32
     if !is_working(b) {
         return Answer::SecondUnfit;
     }
-    answer_of(operation, a, b, task_of(code, precision))
+    answer_of(operation, a, b, task)
+}
+
+// x by itself by a task.
+pub fn round(x: Number, task: Task) -> Answer
+    ensures { λ r. ⌜ outcome r ≡ roundingOf x task ⌝ }
+{
+    if !is_precise(task) {
+        return Answer::BadPrecision;
+    }
+    if !is_working(x) {
+        return Answer::FirstUnfit;
+    }
+    rounded_operand(operand_of(x), task)
 }
 
 // The answer for two working numbers: the exact operation, rounded once by the task.
@@ -97,6 +117,22 @@ fn rounded_product(a: Operand, b: Operand, task: Task) -> Answer
         negative,
         a.exponent + b.exponent,
         words::product(a.significand, b.significand),
+        task,
+    )
+}
+
+// a, rounded by the task.
+fn rounded_operand(a: Operand, task: Task) -> Answer
+    requires { ⌜ IsOperand a × (1 ≤ precisionOf task) × (precisionOf task ≤ 64) ⌝ }
+    ensures { λ r. ⌜ outcome r ≡ rounded task (operandValue a) ⌝ }
+{
+    rounded(
+        a.negative,
+        a.exponent + EXPONENT_STEP,
+        Words {
+            high: 0,
+            low: a.significand,
+        },
         task,
     )
 }

@@ -1,6 +1,9 @@
 // The task of a step: a rounding mode with a precision, or an exactness claim.
 ghost use mathlib.Core.Path.{_≡_};
-ghost use Rattle.numbers.specs.Rounding.{taskOf};
+ghost use Rattle.numbers.specs.Rounding.{taskOf, precisionOf, isPrecision};
+
+// The largest precision; the smallest is 1.
+pub const LARGEST_PRECISION: u32 = 64;
 
 pub enum Mode {
     Trunc,
@@ -59,5 +62,25 @@ pub fn task_of(code: u32, precision: u32) -> Task
             precision,
         }),
         _ => Task::Exact(Claim { precision }),
+    }
+}
+
+// Is n a precision: 1 to 64?
+pub fn is_precision(n: u32) -> bool
+    ensures { λ r. ⌜ r ≡ isPrecision n ⌝ }
+{
+    if 1 <= n {
+        return n <= LARGEST_PRECISION;
+    }
+    false
+}
+
+// Is the precision of the task one?
+pub(crate) fn is_precise(task: Task) -> bool
+    ensures { λ r. ⌜ r ≡ isPrecision (precisionOf task) ⌝ }
+{
+    match task {
+        Task::Round(rounding) => is_precision(rounding.precision),
+        Task::Exact(claim) => is_precision(claim.precision),
     }
 }

@@ -1,4 +1,5 @@
-// Magnitudes of 128 bits in two words. `wide high low` is high × 2^64 + low.
+// Magnitudes of 128 bits in two words, and the upper bits of one word. `wide high low` is
+// high × 2^64 + low.
 ghost use mathlib.Core.Path.{_≡_};
 ghost use Prim.Native.Nat.{_+_, _*_, _/_, _%_, _^_, _≤_, _<_};
 ghost use lib.Dec.{ltb};
@@ -99,13 +100,13 @@ pub(crate) fn shift_left(a: Words, by: u32) -> Words
 }
 
 // One word, and whether something nonzero lies below its last bit.
-pub(crate) struct Part {
+pub struct Part {
     pub value: u64,
     pub rest: bool,
 }
 
 // a / 2^by as a whole number, of one word, and whether a bit that was set is dropped.
-pub(crate) fn cut(a: u64, by: u32) -> Part
+pub fn cut(a: u64, by: u32) -> Part
     ensures { λ r. ⌜ (r .value ≡ a / 2 ^ by) × (r .rest ≡ ltb 0 (a % 2 ^ by)) ⌝ }
 {
     if by == 0 {

@@ -1,4 +1,4 @@
--- The operands of a division: an admissible number's parts, that it is working, and that a working number is known by its value.
+-- The operands of a division: an admissible number's parts, and that it is working.
 use mathlib.Core.Path.{_≡_, sym, ap, _∙_}
 use mathlib.Core.Bool.{Bool, true, and-eq-true-iff}
 use Prim.Native.Nat.{ℕ, _+_, _-_, _^_, _≤_, _<_}
@@ -7,12 +7,10 @@ use borrow.Author.Tests.{leb-true, le-leb, lt-ltb}
 use lib.Dec.{leb}
 use lib.Ieee.{minus}
 use lib.IntN.{ℤ, pos, negsuc}
-use Rattle.numbers.specs.Fraction.{Equal, value}
 use Rattle.numbers.specs.Number.{isSignificand, isBetween, isAdmissibleExponent, isFit, isWorking, isAdmissible}
 use Rattle.numbers.specs.declared.number.Number.{Number}
 use Rattle.numbers.specs.declared.number.Number.the-variants.{Zero, Finite}
 use Rattle.numbers.proofs.Laws.Bias.{minus-down, minus-up, working}
-use Rattle.numbers.proofs.Laws.Decoded.{normalized-equal, normalized-working}
 use Rattle.numbers.proofs.Laws.Fits.{zero-working}
 use Rattle.numbers.proofs.Laws.Operands.{fit-parts}
 use Rattle.division.proofs.Laws.Terms.{IsRemainder}
@@ -45,7 +43,3 @@ admissible-working (Finite s e S) h = go (admissible-parts (Finite s e S) h)
   where
     go : IsRemainder 49089 (Finite s e S) → isWorking (Finite s e S) ≡ true
     go (b, is, range) = rw is (finite-working s b S (omega arith) (range .top) (range .word))
-
--- two working numbers of one value are one number
-pub same-number : (x y : Number) → isWorking x ≡ true → isWorking y ≡ true → Equal (value x) (value y) → x ≡ y
-same-number x y x0 y0 e = sym (normalized-working x x0) ∙ normalized-equal x y e ∙ normalized-working y y0

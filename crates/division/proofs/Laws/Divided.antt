@@ -19,12 +19,14 @@ use Rattle.numbers.specs.declared.number.Number.the-variants.{Zero, Finite}
 use Rattle.numbers.specs.declared.task.Mode.{Mode}
 use Rattle.numbers.specs.declared.task.Mode.the-variants.{Trunc, Away}
 use Rattle.numbers.proofs.Laws.Rounded.{value-fraction}
+use Rattle.numbers.proofs.Laws.Same.{same-number}
 use Rattle.numbers.proofs.Laws.Value.{rounded-zero}
 use Rattle.division.specs.Run.{digitOf, lessOf, digitSteps, sumSteps}
-use Rattle.division.specs.Steps.{lines, lineOf, lineOfBoth, resultAt, workedOut, afterStep}
-use Rattle.division.proofs.Laws.Admissible.{admissible-parts, admissible-working, same-number}
+use Rattle.division.specs.Steps.{lines, lineOf, lineOfBoth, resultAt, workedOut, afterStep, Fails}
+use Rattle.division.proofs.Laws.Admissible.{admissible-parts, admissible-working}
 use Rattle.division.proofs.Laws.Digit.{digit-away, digit-trunc}
 use Rattle.division.proofs.Laws.Digits.{HasDigits, HasSum, digits-sum}
+use Rattle.division.proofs.Laws.Failing.{none-fails}
 use Rattle.division.proofs.Laws.Halves.{halves}
 use Rattle.division.proofs.Laws.Reciprocal.{reciprocal}
 use Rattle.division.proofs.Laws.Run.{item}
@@ -240,6 +242,10 @@ module _ (s : Bool) (b D : ℕ) (range : InRange 49089 b D) (p : Number) (fit : 
     all-counted : length numbers ≡ 32
     unfolding numbers
     all-counted = refl
+
+    -- no step fails its claim
+    pub no-step-fails : (k : ℕ) → Fails p d (byMode mode n) k → ⊥
+    no-step-fails k = none-fails p d (byMode mode n) numbers all-given k
 
     -- every step is given
     pub step-given : (k : ℕ) → 1 ≤ k → k ≤ 32 → (x : Number) × (at k ≡ given x)

@@ -1,26 +1,23 @@
 -- A line worked out on answers: what is refused stays refused, and what is given is the operation's, for operands that are working.
-use mathlib.Core.Path.{_≡_, refl, sym, subst, ap, ap₂, _∙_}
+use mathlib.Core.Path.{_≡_, refl, sym, subst, ap, _∙_}
 use mathlib.Core.Bool.{true}
 use mathlib.Core.List.{[], _∷_}
-use Prim.Native.Nat.{ℕ, _≤_}
-use native.Mathlib.Nat.{mul-one}
-use lib.IntN.{ℤ, one, pos, _+ℤ_, _*ℤ_, +ℤ-idr, *ℤ-one, zero-*ℤ}
+use Prim.Native.Nat.{ℕ}
 use denote.Enum.Declared.{tagOf}
 use types.Run.{OneOf, miss}
-use Rattle.numbers.specs.Answer.{Outcome, given, refused, outcome, rounded, operationOf}
-use Rattle.numbers.specs.Fraction.{Fraction, IsFraction, Equal, value, sum}
+use Rattle.numbers.specs.Answer.{Outcome, given, refused, outcome, rounded, exactOf, operationOf, roundingOf}
+use Rattle.numbers.specs.Fraction.{Fraction, IsFraction, value}
 use Rattle.numbers.specs.Number.{isWorking}
-use Rattle.numbers.specs.Rounding.{taskOf, precisionOf}
+use Rattle.numbers.specs.Rounding.{precisionOf, isPrecision}
 use Rattle.numbers.specs.declared.answer.Answer.{Answer}
 use Rattle.numbers.specs.declared.answer.Answer.the-variants.{Given, UnknownMode, BadPrecision, FirstUnfit, SecondUnfit, ExponentOutside, TooManyBits}
 use Rattle.numbers.specs.declared.number.Number.{Number}
-use Rattle.numbers.specs.declared.number.Number.the-variants.{Zero}
+use Rattle.numbers.specs.declared.operation.Operation.{Operation}
 use Rattle.numbers.specs.declared.task.Task.{Task}
-use Rattle.numbers.proofs.Laws.Fits.{given-working, zero-working}
-use Rattle.numbers.proofs.Laws.Fractions.{sum-fraction}
-use Rattle.numbers.proofs.Laws.Refusals.{none-refused}
+use Rattle.numbers.proofs.Laws.Fits.{given-working}
+use Rattle.numbers.proofs.Laws.Operations.{exact-fraction}
+use Rattle.numbers.proofs.Laws.Refusals.{range-precision, none-refused, round-unrefused}
 use Rattle.numbers.proofs.Laws.Rounded.{value-fraction}
-use Rattle.numbers.proofs.Laws.Value.{same-outcome}
 use Rattle.numbers.proofs.answer.Answer.{the-type}
 use Rattle.division.specs.Run.{IsResult, IsTask}
 use Rattle.division.specs.Steps.{lineOf, lineOfBoth}
@@ -44,13 +41,6 @@ pub as-given : (y : Outcome) (x : Number) → y ≡ given x → IsResult y → i
 unfolding IsResult
 as-given y x is fit = subst IsResult is fit
 
--- zero added
-sum-zero : (x : Fraction) → Equal (sum x (value Zero)) x
-unfolding Equal sum value one
-sum-zero x =
-    let k : x .numerator *ℤ pos 1 +ℤ pos 0 *ℤ pos (x .denominator) ≡ x .numerator = ap₂ _+ℤ_ (*ℤ-one (x .numerator)) (zero-*ℤ (pos (x .denominator))) ∙ +ℤ-idr (x .numerator) in
-    ap₂ (λ (z : ℤ) (n : ℕ). z *ℤ pos n) k (sym (mul-one (x .denominator)))
-
 -- what a task gives is a result
 pub given-result : (task : Task) (x : Fraction) (y : Outcome) → IsFraction x → IsTask task → y ≡ rounded task x → IsResult y
 unfolding IsResult
@@ -72,29 +62,23 @@ module _ (task : Task) where
     unfolding IsResult lineOfBoth outcome
     second-refused a b x is keys = let r = refusal b keys in rw (is, r .1) (refl, tt)
 
-  -- what is given is the operation's, by the task's code and precision
-  module _ (code n : ℕ) (coded : (taskOf code (precisionOf task) ≡ task) × (code ≤ 6)) (precise : n ≡ precisionOf task) (fit-task : IsTask task) where
-    by-task : (exact : Fraction → Fraction → Fraction) (x y : Number) → isWorking x ≡ true → isWorking y ≡ true
-        → operationOf exact x y code n ≡ rounded task (exact (value x) (value y))
-    unfolding operationOf
-    by-task exact x y x0 y0 =
-        sym (none-refused 6 isWorking x y code n (rounded (taskOf code n) (exact (value x) (value y))) (coded .1) (rw precise (fit-task .0)) (rw precise (fit-task .1)) x0 y0)
-        ∙ ap (λ (t : Task). rounded t (exact (value x) (value y))) (ap (taskOf code) precise ∙ coded .0)
+  -- what is given is the operation's
+  module _ (fit-task : IsTask task) where
+    precise : isPrecision (precisionOf task) ≡ true
+    precise = range-precision (precisionOf task) (fit-task .0) (fit-task .1)
 
-    pub line-given : (a r : Answer) (x : Number) → a ≡ Given x → IsResult (outcome a) → outcome r ≡ operationOf sum x Zero code n
+    pub line-given : (a r : Answer) (x : Number) → a ≡ Given x → IsResult (outcome a) → outcome r ≡ roundingOf x task
         → (outcome r ≡ lineOf task value (outcome a)) × IsResult (outcome r)
     unfolding lineOf outcome
     line-given a r x is fit e =
-        let total = sum-fraction (value x) (value Zero) (value-fraction x) (value-fraction Zero) in
-        let given-line = by-task sum x Zero (as-given (outcome a) x (ap outcome is) fit) zero-working in
-        let k = e ∙ given-line ∙ same-outcome task (sum (value x) (value Zero)) (value x) total (value-fraction x) (fit-task .0) (sum-zero (value x)) in
+        let k = e ∙ sym (round-unrefused x task precise (as-given (outcome a) x (ap outcome is) fit)) in
         (rw is k, given-result task (value x) (outcome r) (value-fraction x) fit-task k)
 
-    pub both-given : (exact : Fraction → Fraction → Fraction) → ((x y : Fraction) → IsFraction x → IsFraction y → IsFraction (exact x y))
-        → (a b r : Answer) (x y : Number) → a ≡ Given x → b ≡ Given y → IsResult (outcome a) → IsResult (outcome b) → outcome r ≡ operationOf exact x y code n
-        → (outcome r ≡ lineOfBoth task exact (outcome a) (outcome b)) × IsResult (outcome r)
-    unfolding lineOfBoth outcome
-    both-given exact fraction a b r x y is is' fit fit' e =
-        let k = e ∙ by-task exact x y (as-given (outcome a) x (ap outcome is) fit) (as-given (outcome b) y (ap outcome is') fit') in
-        let total = fraction (value x) (value y) (value-fraction x) (value-fraction y) in
-        (rw (is, is') k, given-result task (exact (value x) (value y)) (outcome r) total fit-task k)
+    pub both-given : (operation : Operation) (a b r : Answer) (x y : Number) → a ≡ Given x → b ≡ Given y → IsResult (outcome a) → IsResult (outcome b)
+        → outcome r ≡ operationOf (exactOf operation) x y task → (outcome r ≡ lineOfBoth task (exactOf operation) (outcome a) (outcome b)) × IsResult (outcome r)
+    unfolding lineOfBoth outcome operationOf
+    both-given operation a b r x y is is' fit fit' e =
+        let exact = rounded task (exactOf operation (value x) (value y)) in
+        let k = e ∙ sym (none-refused isWorking x y (precisionOf task) exact precise (as-given (outcome a) x (ap outcome is) fit) (as-given (outcome b) y (ap outcome is') fit')) in
+        let total = exact-fraction operation (value x) (value y) (value-fraction x) (value-fraction y) in
+        (rw (is, is') k, given-result task (exactOf operation (value x) (value y)) (outcome r) total fit-task k)

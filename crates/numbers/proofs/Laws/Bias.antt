@@ -2,9 +2,9 @@
 -- whether i - o is working or admissible.
 use mathlib.Core.Path.{_≡_, refl, sym, ap, ap₂, _∙_}
 use mathlib.Core.Bool.{true, false, _&&_, and-false, and-eq-true-iff}
-use Prim.Native.Nat.{ℕ, zero, suc, _+_, _-_, _≤_, _<_}
+use Prim.Native.Nat.{ℕ, zero, suc, _+_, _-_, _≤_, _<_, zero-le}
 use native.Mathlib.Decide.{decLe}
-use native.Mathlib.Nat.{le-antisymm, lt-of-not-le}
+use native.Mathlib.Nat.{add-zero, le-antisymm, lt-of-not-le}
 use native.Mathlib.Omega.{arith}
 use lib.Dec.{leb}
 use lib.Ieee.{minus}
@@ -103,9 +103,13 @@ minus-only i o j p h =
     (leb-true (i + p) (j + o) (sym (minus-order i o j p) ∙ ap (λ (e : ℤ). leZ (minus i o) e) (sym h) ∙ one))
     (leb-true (j + o) (i + p) (sym (minus-order j p i o) ∙ ap (λ (e : ℤ). leZ e (minus i o)) (sym h) ∙ one))
 
--- a biased exponent less the bias
-pub less-bias : (b : ℕ) → pos b -ℤ pos 65535 ≡ minus b 65535
-less-bias b = sub-minus b 65535
+-- two natural numbers as a difference, and a natural number subtracted
+pub pos-minus : (a b : ℕ) → pos a -ℤ pos b ≡ minus a b
+pos-minus a zero = ap pos (add-zero a) ∙ sym (minus-down a 0 zero-le ∙ ap pos (omega arith))
+pos-minus a (suc b) = sub-minus a (suc b)
+
+pub minus-less : (i o k : ℕ) → minus i o -ℤ pos k ≡ minus i (o + k)
+minus-less i o k = less-pos i o k
 
 -- ---- is i - o from -low to high?
 

@@ -1,16 +1,18 @@
--- The refusals 1 to 4 in the table's order: what `unlessRefused` is behind each test.
+-- The refusals 1 to 4 in the table's order: what `unlessUnknown` and `unlessRefused` are behind each test.
 use mathlib.Core.Path.{_≡_, refl}
 use mathlib.Core.Bool.{Bool, true, false, cond}
 use Prim.Native.Nat.{ℕ, _≤_, _<_}
 use lib.Dec.{eqb}
-use borrow.Author.Tests.{lt-ltb, le-ltb, le-leb, lt-leb}
+use borrow.Author.Tests.{lt-ltb, le-ltb, le-leb}
 use Rattle.numbers.specs.Rounding.{taskOf, isPrecision, precisionOf}
-use Rattle.numbers.specs.Answer.{Outcome, refused, unlessRefused}
+use Rattle.numbers.specs.Answer.{Outcome, refused, rounded, unlessUnknown, unlessRefused, roundingOf}
+use Rattle.numbers.specs.Fraction.{value}
+use Rattle.numbers.specs.Number.{isWorking}
 use Rattle.numbers.specs.declared.number.Number.{Number}
 use Rattle.numbers.specs.declared.task.Task.{Task}
 use Rattle.numbers.proofs.Laws.Tests.{range-true}
 
--- a task has the precision that it was made with, and so one from 1 to 64
+-- a task has the precision that it was made with
 pub task-precision : (code n : ℕ) → precisionOf (taskOf code n) ≡ n
 unfolding precisionOf taskOf
 task-precision code n =
@@ -20,37 +22,54 @@ task-precision code n =
     either true x y p q = p
     either false x y p q = q
 
-pub task-range : (task : Task) (code n : ℕ) → task ≡ taskOf code n → 1 ≤ n → n ≤ 64 → (1 ≤ precisionOf task) × (precisionOf task ≤ 64)
-task-range task code n is n0 n1 = rw (is, task-precision code n) (n0, n1)
-
 pub precision-range : (n : ℕ) → isPrecision n ≡ true → (1 ≤ n) × (n ≤ 64)
 unfolding isPrecision
 precision-range n h = range-true 1 64 n h
 
-module _ (last : ℕ) (fit : Number → Bool) (a b : Number) (code n : ℕ) (answer : Outcome) where
-  pub unknown-mode : last < code → refused 1 ≡ unlessRefused last fit a b code n answer
-  unfolding unlessRefused
+pub range-precision : (n : ℕ) → 1 ≤ n → n ≤ 64 → isPrecision n ≡ true
+unfolding isPrecision
+range-precision n n0 n1 = rw (le-leb 1 n n0, le-leb n 64 n1)
+
+-- row 1
+module _ (last code : ℕ) (answer : Outcome) where
+  pub unknown-mode : last < code → refused 1 ≡ unlessUnknown last code answer
+  unfolding unlessUnknown
   unknown-mode h = rw (lt-ltb last code h)
 
-  module _ (c : code ≤ last) where
-    pub precision-zero : n < 1 → refused 2 ≡ unlessRefused last fit a b code n answer
-    unfolding unlessRefused isPrecision
-    precision-zero h = rw (le-ltb last code c, lt-leb 1 n h)
+  pub known-mode : code ≤ last → answer ≡ unlessUnknown last code answer
+  unfolding unlessUnknown
+  known-mode h = rw (le-ltb last code h)
 
-    module _ (n0 : 1 ≤ n) where
-      pub precision-above : 64 < n → refused 2 ≡ unlessRefused last fit a b code n answer
-      unfolding unlessRefused isPrecision
-      precision-above h = rw (le-ltb last code c, le-leb 1 n n0, lt-leb n 64 h)
+-- rows 2 to 4
+module _ (fit : Number → Bool) (a b : Number) (n : ℕ) (answer : Outcome) where
+  pub bad-precision : isPrecision n ≡ false → refused 2 ≡ unlessRefused fit a b n answer
+  unfolding unlessRefused
+  bad-precision h = rw h
 
-      module _ (n1 : n ≤ 64) where
-        pub first-unfit : fit a ≡ false → refused 3 ≡ unlessRefused last fit a b code n answer
-        unfolding unlessRefused isPrecision
-        first-unfit h = rw (le-ltb last code c, le-leb 1 n n0, le-leb n 64 n1, h)
+  module _ (precise : isPrecision n ≡ true) where
+    pub first-unfit : fit a ≡ false → refused 3 ≡ unlessRefused fit a b n answer
+    unfolding unlessRefused
+    first-unfit h = rw (precise, h)
 
-        pub second-unfit : fit a ≡ true → fit b ≡ false → refused 4 ≡ unlessRefused last fit a b code n answer
-        unfolding unlessRefused isPrecision
-        second-unfit h k = rw (le-ltb last code c, le-leb 1 n n0, le-leb n 64 n1, h, k)
+    pub second-unfit : fit a ≡ true → fit b ≡ false → refused 4 ≡ unlessRefused fit a b n answer
+    unfolding unlessRefused
+    second-unfit h k = rw (precise, h, k)
 
-        pub none-refused : fit a ≡ true → fit b ≡ true → answer ≡ unlessRefused last fit a b code n answer
-        unfolding unlessRefused isPrecision
-        none-refused h k = rw (le-ltb last code c, le-leb 1 n n0, le-leb n 64 n1, h, k)
+    pub none-refused : fit a ≡ true → fit b ≡ true → answer ≡ unlessRefused fit a b n answer
+    unfolding unlessRefused
+    none-refused h k = rw (precise, h, k)
+
+-- rows 2 and 3 of a number by itself
+module _ (x : Number) (task : Task) where
+  pub round-imprecise : isPrecision (precisionOf task) ≡ false → refused 2 ≡ roundingOf x task
+  unfolding roundingOf
+  round-imprecise h = rw h
+
+  module _ (precise : isPrecision (precisionOf task) ≡ true) where
+    pub round-unfit : isWorking x ≡ false → refused 3 ≡ roundingOf x task
+    unfolding roundingOf
+    round-unfit h = rw (precise, h)
+
+    pub round-unrefused : isWorking x ≡ true → rounded task (value x) ≡ roundingOf x task
+    unfolding roundingOf
+    round-unrefused h = rw (precise, h)

@@ -9,13 +9,13 @@ rounded-requires : tie.Need-rounded-requires
 unfolding precisionOf
 rounded-requires c κs = search needs
 
-product-requires : tie.Need-product-requires
+combined-requires : tie.Need-combined-requires
 unfolding precisionOf
-product-requires c κs = search needs
+combined-requires c κs = search needs
 
 returns : tie.Need-returns
 unfolding digitOf
-returns c = (rw (c .before .rounded .ensures .0) at (c .product .ensures .0), c .product .ensures .1)
+returns c = (rw (c .before .rounded .ensures .0) at (c .combined .ensures .0), c .combined .ensures .1)
 
 pub digit-of-spec : {M : Type 1} → statement M
-digit-of-spec = tie.close (tie.spec rounded-requires product-requires returns)
+digit-of-spec = tie.close (tie.spec rounded-requires combined-requires returns)

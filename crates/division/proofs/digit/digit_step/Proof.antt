@@ -7,13 +7,13 @@ use Rattle.division.specs.Run.{digitStep}
 use Rattle.division.proofs.digit.digit_step.Statement.{statement}
 use Rattle.division.proofs.digit.digit_step.Tie as tie
 
-product-requires : tie.Need-product-requires
+combined-requires : tie.Need-combined-requires
 unfolding precisionOf
-product-requires c κs = search needs
+combined-requires c κs = search needs
 
-product-requires-2 : tie.Need-product-requires-2
+combined-requires-2 : tie.Need-combined-requires-2
 unfolding precisionOf
-product-requires-2 c κs = search needs
+combined-requires-2 c κs = search needs
 
 less-product-requires : tie.Need-less-product-requires
 less-product-requires c κs = search needs
@@ -24,11 +24,11 @@ returns c = rw (c .match .keys1)
 
 returns-2 : tie.Need-returns-2
 unfolding digitStep
-returns-2 c = rw (c .before .match .keys2) (c .product .ensures .0)
+returns-2 c = rw (c .before .match .keys2) (c .combined .ensures .0)
 
 returns-3 : tie.Need-returns-3
 unfolding digitStep
-returns-3 c = rw (c .before .match .keys3) (c .product2 .ensures .0)
+returns-3 c = rw (c .before .match .keys3) (c .combined2 .ensures .0)
 
 returns-4 : tie.Need-returns-4
 unfolding digitStep
@@ -40,8 +40,8 @@ pub digit-step-spec : {M : Type 1} → statement M
 digit-step-spec =
     tie.close
     (tie.spec
-    product-requires
-    product-requires-2
+    combined-requires
+    combined-requires-2
     less-product-requires
     returns
     returns-2

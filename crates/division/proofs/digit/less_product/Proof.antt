@@ -5,17 +5,17 @@ use Rattle.division.specs.Run.{lessOf}
 use Rattle.division.proofs.digit.less_product.Statement.{statement}
 use Rattle.division.proofs.digit.less_product.Tie as tie
 
-product-requires : tie.Need-product-requires
+combined-requires : tie.Need-combined-requires
 unfolding precisionOf
-product-requires c κs = search needs
+combined-requires c κs = search needs
 
-difference-requires : tie.Need-difference-requires
+combined-requires-2 : tie.Need-combined-requires-2
 unfolding precisionOf
-difference-requires c κs = search needs
+combined-requires-2 c κs = search needs
 
 returns : tie.Need-returns
 unfolding lessOf
-returns c = (rw (c .before .product .ensures .0) at (c .difference .ensures .0), c .difference .ensures .1)
+returns c = (rw (c .before .combined .ensures .0) at (c .combined2 .ensures .0), c .combined2 .ensures .1)
 
 pub less-product-spec : {M : Type 1} → statement M
-less-product-spec = tie.close (tie.spec product-requires difference-requires returns)
+less-product-spec = tie.close (tie.spec combined-requires combined-requires-2 returns)

@@ -8,13 +8,13 @@ use Rattle.division.proofs.Lines.{line-8}
 use Rattle.division.proofs.digit.low_half.Statement.{statement}
 use Rattle.division.proofs.digit.low_half.Tie as tie
 
-difference-requires : tie.Need-difference-requires
+combined-requires : tie.Need-combined-requires
 unfolding precisionOf
-difference-requires c κs = search (operand-result _ (c .pre .0), needs)
+combined-requires c κs = search (operand-result _ (c .pre .0), needs)
 
 returns : tie.Need-returns
 unfolding outcome
-returns c = (λ p task. rw (c .before .pre .1 p task) at (c .difference .ensures .0) ∙ sym (line-8 p _ task), c .difference .ensures .1)
+returns c = (λ p task. rw (c .before .pre .1 p task) at (c .combined .ensures .0) ∙ sym (line-8 p _ task), c .combined .ensures .1)
 
 pub low-half-spec : {M : Type 1} → statement M
-low-half-spec = tie.close (tie.spec difference-requires returns)
+low-half-spec = tie.close (tie.spec combined-requires returns)

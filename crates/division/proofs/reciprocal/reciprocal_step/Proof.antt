@@ -32,7 +32,7 @@ is-line rounding exact d j k l a b r line f g e p task = e ∙ ap₂ (lineOfBoth
 abbrev started : tie.After-seed2 → tie.Start
 started c = c .before .before .before .before
 
-abbrev divisor : tie.After-product → Number
+abbrev divisor : tie.After-combined → Number
 divisor c = started (c .before) .args .d
 
 first : (c : tie.After-seed2) → Is (started c .args .d) 1 (outcome (c .seed2 .result))
@@ -42,18 +42,18 @@ second : (c : tie.After-rounded) → Is (c .before .before .args .d) 2 (outcome 
 unfolding outcome
 second c p task = c .rounded .ensures .0 ∙ sym (line-2 p _ task)
 
-third : (c : tie.After-product) → Is (divisor c) 3 (outcome (c .product .result))
-third c = is-line (byMode Away 32) product _ 1 2 3 _ _ _ (λ p task. line-3 p _ task) (first (c .before)) (second (c .before .before .before)) (c .product .ensures .0)
+third : (c : tie.After-combined) → Is (divisor c) 3 (outcome (c .combined .result))
+third c = is-line (byMode Away 32) product _ 1 2 3 _ _ _ (λ p task. line-3 p _ task) (first (c .before)) (second (c .before .before .before)) (c .combined .ensures .0)
 
 fourth : (c : tie.After-refined) → Is (divisor (c .before .before)) 4 (outcome (c .refined .result))
 fourth c =
     let t = c .before .before in
     is-line (byMode Trunc 32) refined _ 1 3 4 _ _ _ (λ p task. line-4 p _ task) (first (t .before)) (third t) (c .refined .ensures .0)
 
-fifth : (c : tie.After-product2) → Is (divisor (c .before .before .before .before)) 5 (outcome (c .product2 .result))
+fifth : (c : tie.After-combined2) → Is (divisor (c .before .before .before .before)) 5 (outcome (c .combined2 .result))
 fifth c =
     let s = c .before .before in
-    is-line (byMode Away 32) product _ 4 2 5 _ _ _ (λ p task. line-5 p _ task) (fourth s) (second (s .before .before .before .before .before)) (c .product2 .ensures .0)
+    is-line (byMode Away 32) product _ 4 2 5 _ _ _ (λ p task. line-5 p _ task) (fourth s) (second (s .before .before .before .before .before)) (c .combined2 .ensures .0)
 
 sixth : (c : tie.After-refined2) → Is (divisor (c .before .before .before .before .before .before)) 6 (outcome (c .refined2 .result))
 sixth c =
@@ -76,9 +76,9 @@ returns-2 c = (λ p task. rw (c .if2 .taken) (second (c .before) p task), c .bef
 seed-requires-2 : tie.Need-seed-requires-2
 seed-requires-2 c κs = search needs
 
-product-requires : tie.Need-product-requires
+combined-requires : tie.Need-combined-requires
 unfolding precisionOf
-product-requires c κs = (c .seed2 .ensures .1, c .before .before .rounded .ensures .1, (lit≤ tt, lit≤ tt))
+combined-requires c κs = (c .seed2 .ensures .1, c .before .before .rounded .ensures .1, (lit≤ tt, lit≤ tt))
 
 returns-3 : tie.Need-returns-3
 returns-3 c = (λ p task. rw (c .if3 .taken) (third (c .before) p task), c .before .product .ensures .1)
@@ -87,14 +87,14 @@ refined-requires : tie.Need-refined-requires
 refined-requires c κs =
     let t = c .before in
     let pre = started (t .before) .pre in
-    (t .before .seed2 .ensures .1, t .product .ensures .1, rw (third t Zero (claim 1)) (has-complements Zero _ (claim 1) (pre .0) (pre .1) .0))
+    (t .before .seed2 .ensures .1, t .combined .ensures .1, rw (third t Zero (claim 1)) (has-complements Zero _ (claim 1) (pre .0) (pre .1) .0))
 
 returns-4 : tie.Need-returns-4
 returns-4 c = (λ p task. rw (c .if4 .taken) (fourth (c .before) p task), c .before .refined .ensures .1)
 
-product-requires-2 : tie.Need-product-requires-2
+combined-requires-2 : tie.Need-combined-requires-2
 unfolding precisionOf
-product-requires-2 c κs =
+combined-requires-2 c κs =
     let s = c .before in
     (s .refined .ensures .1, s .before .before .before .before .before .rounded .ensures .1, (lit≤ tt, lit≤ tt))
 
@@ -106,7 +106,7 @@ refined-requires-2 c κs =
     let t = c .before in
     let s = t .before .before in
     let pre = started (s .before .before .before) .pre in
-    (s .refined .ensures .1, t .product2 .ensures .1, rw (fifth t Zero (claim 1)) (has-complements Zero _ (claim 1) (pre .0) (pre .1) .1))
+    (s .refined .ensures .1, t .combined2 .ensures .1, rw (fifth t Zero (claim 1)) (has-complements Zero _ (claim 1) (pre .0) (pre .1) .1))
 
 returns-6 : tie.Need-returns-6
 returns-6 c =
@@ -122,11 +122,11 @@ reciprocal-step-spec =
     rounded-requires
     returns-2
     seed-requires-2
-    product-requires
+    combined-requires
     returns-3
     refined-requires
     returns-4
-    product-requires-2
+    combined-requires-2
     returns-5
     refined-requires-2
     returns-6)

@@ -55,19 +55,19 @@ refined-line task (given x) (given t) c r n0 has e f =
     ∙ same-outcome task (product (value x) y) (refined (value x) (value t)) (product-fraction (value x) y x0 y0) (refined-fraction (value x) (value t) x0 t0) n0
     (product-equal (value x) y (value x) (complement (value t)) x0 y0 x0 (complement-fraction (value t) t0) refl (has .2))
 
-difference-requires : tie.Need-difference-requires
+combined-requires : tie.Need-combined-requires
 unfolding outcome made precisionOf
-difference-requires c κs = (made-working, c .pre .1, (lit≤ tt, lit≤ tt))
+combined-requires c κs = (made-working, c .pre .1, (lit≤ tt, lit≤ tt))
 
-product-requires : tie.Need-product-requires
+combined-requires-2 : tie.Need-combined-requires-2
 unfolding precisionOf
-product-requires c κs = (c .before .pre .0, c .difference .ensures .1, (lit≤ tt, lit≤ tt))
+combined-requires-2 c κs = (c .before .pre .0, c .combined .ensures .1, (lit≤ tt, lit≤ tt))
 
 returns : tie.Need-returns
 unfolding outcome made precisionOf
 returns c =
     let start = c .before .before in
-    (refined-line _ _ _ _ _ (lit≤ tt) (start .pre .2) (c .before .difference .ensures .0) (c .product .ensures .0), c .product .ensures .1)
+    (refined-line _ _ _ _ _ (lit≤ tt) (start .pre .2) (c .before .combined .ensures .0) (c .combined2 .ensures .0), c .combined2 .ensures .1)
 
 pub refined-spec : {M : Type 1} → statement M
-refined-spec = tie.close (tie.spec difference-requires product-requires returns)
+refined-spec = tie.close (tie.spec combined-requires combined-requires-2 returns)

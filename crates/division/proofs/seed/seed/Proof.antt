@@ -18,10 +18,11 @@ use Rattle.numbers.specs.declared.number.Number.{Number}
 use Rattle.numbers.specs.declared.number.Number.the-variants.{Zero, Finite}
 use Rattle.numbers.proofs.Laws.Bias.{minus-minus, minus-small}
 use Rattle.numbers.proofs.Laws.Exponent.{minus-same}
+use Rattle.numbers.proofs.Laws.Same.{same-number}
 use Rattle.division.specs.Quotient.{isZero}
 use Rattle.division.specs.Run.{IsResult}
 use Rattle.division.specs.Steps.{entryOf, indexOf, seed}
-use Rattle.division.proofs.Laws.Admissible.{admissible-parts, finite-working, same-number}
+use Rattle.division.proofs.Laws.Admissible.{admissible-parts, finite-working}
 use Rattle.division.proofs.Laws.Scaled.{origin-is, working-scaled, coarser, equal-scaled}
 use Rattle.division.proofs.Laws.Seed.{entryFor, entry-range, index-below, seed-step}
 use Rattle.division.proofs.Laws.Terms.{InRange, IsRemainder}

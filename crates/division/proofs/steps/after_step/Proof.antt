@@ -1,6 +1,5 @@
 -- `division::steps::after_step` meets its contract: each step is the reciprocal's, a half of the divisor or one of the digits'.
 use borrow.Author.Needs.{needs}
-use Rattle.numbers.proofs.Laws.Refusals.{task-range}
 use Rattle.division.proofs.steps.after_step.Statement.{statement}
 use Rattle.division.proofs.steps.after_step.Tie as tie
 
@@ -25,16 +24,11 @@ low-half-requires c κs = search needs
 returns-3 : tie.Need-returns-3
 returns-3 c = rw (c .before .before .if3 .taken) (c .low-half .ensures .0 _ _)
 
-task-of-requires : tie.Need-task-of-requires
-task-of-requires c κs = search needs
-
 digits-step-requires : tie.Need-digits-step-requires
-digits-step-requires c κs =
-    let pre = c .before .before .before .before .pre in
-    search (task-range _ _ _ (c .task-of .ensures) (pre .4) (pre .5), needs)
+digits-step-requires c κs = search needs
 
 returns-4 : tie.Need-returns-4
-returns-4 c = rw (c .before .task-of .ensures) at (c .digits-step .ensures)
+returns-4 c = search needs
 
 pub after-step-spec : {M : Type 1} → statement M
 after-step-spec =
@@ -47,6 +41,5 @@ after-step-spec =
     high-half-requires-2
     low-half-requires
     returns-3
-    task-of-requires
     digits-step-requires
     returns-4)

@@ -65,16 +65,16 @@ returns-3 c = rw (c .if3 .taken) (first-digit (c .before))
 high-half-requires : tie.Need-high-half-requires
 high-half-requires c κs = search needs
 
-product-requires : tie.Need-product-requires
+combined-requires : tie.Need-combined-requires
 unfolding precisionOf
-product-requires c κs = search needs
+combined-requires c κs = search needs
 
 returns-4 : tie.Need-returns-4
 unfolding digitSteps
 returns-4 c =
     let high = c .before .before in
     let digit = high .before .before in
-    rw (c .before .if4 .taken, c .product .ensures .0, digit .digit-of .ensures .0) (item 2 (values digit _ _ (high .high-half .ensures .0 _ _) refl))
+    rw (c .before .if4 .taken, c .combined .ensures .0, digit .digit-of .ensures .0) (item 2 (values digit _ _ (high .high-half .ensures .0 _ _) refl))
 
 less-product-requires : tie.Need-less-product-requires
 less-product-requires c κs = search needs
@@ -89,9 +89,9 @@ returns-5 c =
 low-half-requires : tie.Need-low-half-requires
 low-half-requires c κs = search needs
 
-product-requires-2 : tie.Need-product-requires-2
+combined-requires-2 : tie.Need-combined-requires-2
 unfolding precisionOf
-product-requires-2 c κs = search needs
+combined-requires-2 c κs = search needs
 
 returns-6 : tie.Need-returns-6
 unfolding digitSteps
@@ -99,7 +99,7 @@ returns-6 c =
     let low = c .before .before in
     let high = low .before .before .before in
     let digit = high .before .before in
-    rw (c .before .if6 .taken, c .product2 .ensures .0, digit .digit-of .ensures .0)
+    rw (c .before .if6 .taken, c .combined2 .ensures .0, digit .digit-of .ensures .0)
     (item 3 (values digit _ _ (high .high-half .ensures .0 _ _) (low .low-half .ensures .0 _ _)))
 
 remainder-after-requires : tie.Need-remainder-after-requires
@@ -157,12 +157,12 @@ digits-step-spec =
     digit-of-requires
     returns-3
     high-half-requires
-    product-requires
+    combined-requires
     returns-4
     less-product-requires
     returns-5
     low-half-requires
-    product-requires-2
+    combined-requires-2
     returns-6
     remainder-after-requires
     returns-7

@@ -11,24 +11,24 @@ returns : tie.Need-returns
 unfolding lastStep
 returns c = rw (c .if1 .taken)
 
-sum-requires : tie.Need-sum-requires
+combined-requires : tie.Need-combined-requires
 unfolding precisionOf
-sum-requires c κs = search needs
+combined-requires c κs = search needs
 
 returns-2 : tie.Need-returns-2
 unfolding lastStep sumSteps
-returns-2 c = rw (c .if2 .taken) (c .before .sum .ensures .0)
+returns-2 c = rw (c .if2 .taken) (c .before .combined .ensures .0)
 
-sum-requires-2 : tie.Need-sum-requires-2
+combined-requires-2 : tie.Need-combined-requires-2
 unfolding precisionOf
-sum-requires-2 c κs = search needs
+combined-requires-2 c κs = search needs
 
 returns-3 : tie.Need-returns-3
 unfolding lastStep sumSteps
-returns-3 c = rw (c .if3 .taken) (rw (c .before .before .before .sum .ensures .0) at (c .before .sum2 .ensures .0))
+returns-3 c = rw (c .if3 .taken) (rw (c .before .before .before .combined .ensures .0) at (c .before .combined2 .ensures .0))
 
-sum-requires-3 : tie.Need-sum-requires-3
-sum-requires-3 c κs = search needs
+combined-requires-3 : tie.Need-combined-requires-3
+combined-requires-3 c κs = search needs
 
 returns-4 : tie.Need-returns-4
 unfolding lastStep sumSteps
@@ -36,7 +36,7 @@ returns-4 c =
     let middle = c .before .before in
     let low = middle .before .before in
     let last : low .before .before .args .wanted ≡ 32 = omega arith in
-    rw (last, c .sum3 .ensures .0, middle .sum2 .ensures .0, low .sum .ensures .0)
+    rw (last, c .combined3 .ensures .0, middle .combined2 .ensures .0, low .combined .ensures .0)
 
 pub last-step-spec : {M : Type 1} → statement M
-last-step-spec = tie.close (tie.spec returns sum-requires returns-2 sum-requires-2 returns-3 sum-requires-3 returns-4)
+last-step-spec = tie.close (tie.spec returns combined-requires returns-2 combined-requires-2 returns-3 combined-requires-3 returns-4)

@@ -8,7 +8,7 @@ use lib.IntN.{ℤ, pos, _-ℤ_}
 use mir.Facts.{toZ-ofZ, toZ-pos}
 use mir.Syntax.{w32}
 use mir.Val.{SFits, toZ}
-use Rattle.numbers.proofs.Laws.Bias.{less-bias, minus-small}
+use Rattle.numbers.proofs.Laws.Bias.{pos-minus, minus-small}
 use Rattle.numbers.proofs.number.unbiased.Statement.{statement}
 use Rattle.numbers.proofs.number.unbiased.Tie as tie
 
@@ -20,7 +20,7 @@ cast-result-2 c = search needs
 
 module _ (b : ℕ) (h : b ≤ 131071) where
   difference-is : toZ w32 b -ℤ pos 65535 ≡ minus b 65535
-  difference-is = ap (λ (z : ℤ). z -ℤ pos 65535) (toZ-pos w32 {n = b} (omega arith)) ∙ less-bias b
+  difference-is = ap (λ (z : ℤ). z -ℤ pos 65535) (toZ-pos w32 {n = b} (omega arith)) ∙ pos-minus b 65535
 
   difference-fits : SFits w32 (toZ w32 b -ℤ pos 65535)
   difference-fits = rw difference-is (record { sfits = minus-small b 65535 (2 ^ 31) (omega arith) (omega arith) })

@@ -1,16 +1,15 @@
--- `numbers::operation::add` meets its contract: it is `operate` at the sum.
+-- `numbers::operation::add` meets its contract: it is `coded` at the sum.
 use borrow.Author.Needs.{needs}
 use Rattle.numbers.specs.Answer.{sumOf}
-use Rattle.numbers.specs.Words.{exactOf}
 use Rattle.numbers.proofs.operation.add.Statement.{statement}
 use Rattle.numbers.proofs.operation.add.Tie as tie
 
-operate-requires : tie.Need-operate-requires
-operate-requires c κs = search needs
+coded-requires : tie.Need-coded-requires
+coded-requires c κs = search needs
 
 returns : tie.Need-returns
-unfolding exactOf sumOf
-returns c = c .operate .ensures
+unfolding sumOf
+returns c = c .coded .ensures
 
 pub add-spec : {M : Type 1} → statement M
-add-spec = tie.close (tie.spec operate-requires returns)
+add-spec = tie.close (tie.spec coded-requires returns)

@@ -4,10 +4,10 @@ use mathlib.Core.Bool.{true}
 use Prim.Native.Nat.{_≤_}
 use borrow.Author.Needs.{needs}
 use Rattle.numbers.specs.Rounding.{precisionOf}
-use Rattle.numbers.specs.Answer.{Outcome, rounded}
+use Rattle.numbers.specs.Answer.{Outcome, rounded, exactOf}
 use Rattle.numbers.specs.Fraction.{Equal, value, sum, product}
 use Rattle.numbers.specs.Number.{isWorking, negated}
-use Rattle.numbers.specs.Words.{operandValue, exactOf}
+use Rattle.numbers.specs.Words.{operandValue}
 use Rattle.numbers.specs.declared.number.Number.{Number}
 use Rattle.numbers.specs.declared.operand.Operand.{Operand}
 use Rattle.numbers.specs.declared.operation.Operation.{Operation}
@@ -31,16 +31,13 @@ module _ (task : Task) (n0 : 1 ≤ precisionOf task) (a b : Number) (x y : Opera
       (sum-fraction (operandValue x) (operandValue y) (operand-fraction x) (operand-fraction y)) n0 (sum-equal (value a) (value b) (operandValue x) (operandValue y) a-is b-is)
 
   of-sum : (operation : Operation) → operation ≡ Sum → out ≡ rounded task (sum (operandValue x) (operandValue y)) → out ≡ rounded task (exactOf operation (value a) (value b))
-  unfolding exactOf
   of-sum operation e o = o ∙ sym sum-same ∙ rw e
 
   of-difference : (operation : Operation) (c : Number) → operation ≡ Difference → b ≡ negated c → out ≡ rounded task (sum (operandValue x) (operandValue y)) → out ≡ rounded task (exactOf operation (value a) (value c))
-  unfolding exactOf
   of-difference operation c e k o =
       o ∙ sym sum-same ∙ ap (λ (z : Number). rounded task (sum (value a) (value z))) k ∙ ap (rounded task) (difference-is (value a) c) ∙ rw e
 
   of-product : (operation : Operation) → operation ≡ Product → out ≡ rounded task (product (operandValue x) (operandValue y)) → out ≡ rounded task (exactOf operation (value a) (value b))
-  unfolding exactOf
   of-product operation e o =
       o
       ∙ sym (same-outcome task (product (value a) (value b)) (product (operandValue x) (operandValue y)) (product-fraction (value a) (value b) (value-fraction a) (value-fraction b))

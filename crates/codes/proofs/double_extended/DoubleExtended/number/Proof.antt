@@ -1,0 +1,22 @@
+-- `codes::double_extended::DoubleExtended::number` meets its contract: the code is taken apart, and the number of its parts is answered.
+use borrow.Author.Needs.{needs}
+use Rattle.codes.specs.Codes.{doubleExtended}
+use Rattle.codes.proofs.Laws.Entries.{number-is, read-requires}
+use Rattle.codes.proofs.Laws.Parts.{double-extended-format}
+use Rattle.codes.proofs.double_extended.DoubleExtended.number.Statement.{statement}
+use Rattle.codes.proofs.double_extended.DoubleExtended.number.Tie as tie
+
+parts-requires : tie.Need-parts-requires
+parts-requires c κs = search needs
+
+format-requires : tie.Need-format-requires
+format-requires c κs = search needs
+
+number-of-requires : tie.Need-number-of-requires
+number-of-requires c κs = read-requires doubleExtended _ _ _ double-extended-format (c .format .ensures) (c .before .parts .ensures)
+
+returns : tie.Need-returns
+returns c = number-is doubleExtended _ _ _ _ (c .before .format .ensures) (c .before .before .parts .ensures) (c .number-of .ensures)
+
+pub number-spec : {M : Type 1} → statement M
+number-spec = tie.close (tie.spec parts-requires format-requires number-of-requires returns)

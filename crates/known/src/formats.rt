@@ -1,0 +1,76 @@
+// Cases of codes: one to read, or a buffer and the number to write into it.
+use super::answer;
+use super::buffer;
+use super::line;
+use super::line::Cursor;
+use super::line::Line;
+use super::line::Place;
+use super::number;
+use super::number::Operand;
+use codes::binary64::Binary64;
+use codes::code::Reading;
+use codes::code::Writing;
+use codes::double_extended::DoubleExtended;
+use numbers::number::Number;
+
+// The format of a case.
+pub enum Format {
+    DoubleExtended,
+    Binary64,
+}
+
+// What a case calls.
+pub enum Entry {
+    Read(Format),
+    Write(Format),
+}
+
+// Prints the answer to the case whose buffer stands at the cursor.
+pub fn run(text: &Line, c: Cursor, entry: Entry) {
+    let mut content = [0u8; buffer::MOST];
+    let length = buffer::length(text, c);
+    run_with(text, c, entry, &mut content[..length]);
+}
+
+// The same, with the bytes that hold the buffer.
+fn run_with(text: &Line, c: Cursor, entry: Entry, bytes: &mut [u8]) {
+    let Place::Past(next) = buffer::read(text, c, bytes) else {
+        return answer::print_no_case();
+    };
+    match entry {
+        Entry::Read(format) => run_read(text, next, format, bytes),
+        Entry::Write(format) => run_write(text, next, format, bytes),
+    }
+}
+
+fn run_read(text: &Line, c: Cursor, format: Format, code: &[u8]) {
+    if !line::ended(text, c) {
+        return answer::print_no_case();
+    }
+    answer::print(answer::of_reading(read(format, code)));
+}
+
+fn run_write(text: &Line, c: Cursor, format: Format, bytes: &mut [u8]) {
+    let Operand::Read { value: x, next } = number::read(text, c) else {
+        return answer::print_no_case();
+    };
+    if !line::ended(text, next) {
+        return answer::print_no_case();
+    }
+    let done = write(format, x, bytes);
+    answer::print_writing(done, bytes);
+}
+
+fn read(format: Format, code: &[u8]) -> Reading {
+    match format {
+        Format::DoubleExtended => DoubleExtended::read(code),
+        Format::Binary64 => Binary64::read(code),
+    }
+}
+
+fn write(format: Format, x: Number, bytes: &mut [u8]) -> Writing {
+    match format {
+        Format::DoubleExtended => DoubleExtended::write(x, bytes),
+        Format::Binary64 => Binary64::write(x, bytes),
+    }
+}

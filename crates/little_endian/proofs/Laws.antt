@@ -1,0 +1,2 @@
+-- The laws of little-endian bytes.
+pub mod Bytes

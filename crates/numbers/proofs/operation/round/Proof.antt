@@ -1,0 +1,68 @@
+-- `numbers::operation::round` meets its contract: rows 2 and 3, and then the operand, which has the number's value.
+use mathlib.Core.Path.{_≡_, sym, _∙_}
+use mathlib.Core.Bool.{true}
+use Prim.Native.Nat.{_≤_}
+use borrow.Author.Needs.{needs}
+use borrow.Author.Tests.{not-true, not-false}
+use Rattle.numbers.specs.Answer.{Outcome, outcome, rounded, roundingOf}
+use Rattle.numbers.specs.Fraction.{Equal, value}
+use Rattle.numbers.specs.Number.{isWorking}
+use Rattle.numbers.specs.Rounding.{isPrecision, precisionOf}
+use Rattle.numbers.specs.Words.{operandValue}
+use Rattle.numbers.specs.declared.number.Number.{Number}
+use Rattle.numbers.specs.declared.operand.Operand.{Operand}
+use Rattle.numbers.specs.declared.task.Task.{Task}
+use Rattle.numbers.proofs.Laws.Operands.{operand-fraction}
+use Rattle.numbers.proofs.Laws.Refusals.{precision-range, round-imprecise, round-unfit, round-unrefused}
+use Rattle.numbers.proofs.Laws.Rounded.{value-fraction}
+use Rattle.numbers.proofs.Laws.Value.{same-outcome}
+use Rattle.numbers.proofs.operation.round.Statement.{statement}
+use Rattle.numbers.proofs.operation.round.Tie as tie
+
+same : (task : Task) (x : Number) (a : Operand) (out : Outcome) → 1 ≤ precisionOf task → Equal (value x) (operandValue a) → out ≡ rounded task (operandValue a) → out ≡ rounded task (value x)
+same task x a out n0 is o = o ∙ sym (same-outcome task (value x) (operandValue a) (value-fraction x) (operand-fraction a) n0 is)
+
+is-precise-requires : tie.Need-is-precise-requires
+is-precise-requires c κs = search needs
+
+returns : tie.Need-returns
+unfolding outcome
+returns c = round-imprecise _ _ (sym (c .before .is-precise .ensures) ∙ not-true _ (c .if1 .taken))
+
+is-working-requires : tie.Need-is-working-requires
+is-working-requires c κs = search needs
+
+-- past a test, what it asks is so
+precise : (c : tie.Else1) → isPrecision (precisionOf (c .before .before .args .task)) ≡ true
+precise c = sym (c .before .is-precise .ensures) ∙ not-false _ (c .if1 .left)
+
+returns-2 : tie.Need-returns-2
+unfolding outcome
+returns-2 c = round-unfit _ _ (precise (c .before .before)) (sym (c .before .is-working .ensures) ∙ not-true _ (c .if2 .taken))
+
+fit : (c : tie.Else2) → isWorking (c .before .before .before .before .args .x) ≡ true
+fit c = sym (c .before .is-working .ensures) ∙ not-false _ (c .if2 .left)
+
+operand-of-requires : tie.Need-operand-of-requires
+operand-of-requires c κs = fit c
+
+rounded-operand-requires : tie.Need-rounded-operand-requires
+rounded-operand-requires c κs = let n = precision-range _ (precise (c .before .before .before)) in (c .operand-of .ensures .1, n .0, n .1)
+
+returns-3 : tie.Need-returns-3
+returns-3 c =
+    let f = c .before .before in
+    let exact = precise (f .before .before) in
+    same _ _ _ _ (precision-range _ exact .0) (c .before .operand-of .ensures .0) (c .rounded-operand .ensures) ∙ round-unrefused _ _ exact (fit f)
+
+pub round-spec : {M : Type 1} → statement M
+round-spec =
+    tie.close
+    (tie.spec
+    is-precise-requires
+    returns
+    is-working-requires
+    returns-2
+    operand-of-requires
+    rounded-operand-requires
+    returns-3)

@@ -16,7 +16,6 @@ use Rattle.numbers.specs.declared.number.Number.the-variants.{Zero, Finite}
 use Rattle.numbers.specs.declared.task.Mode.{Mode}
 use Rattle.numbers.specs.declared.task.Mode.the-variants.{Trunc, Away, Near, Sticky, Up, Down}
 use Rattle.numbers.proofs.Laws.Refusals.{precision-range, range-precision}
-use Rattle.numbers.proofs.Laws.Tests.{range-true}
 use Rattle.division.specs.Quotient.{isZero, quotientOutcome, unlessIndivisible, quotientOf}
 use Rattle.division.specs.Steps.{afterStep}
 use Rattle.division.specs.Theorem.{IsDivided, IsTaken, IsAnswered, IsAnswer, Division}
@@ -27,7 +26,7 @@ use Rattle.division.specs.declared.answer.Step.{Step}
 use Rattle.division.specs.declared.answer.Step.the-variants as step
 use Rattle.division.proofs.Laws.Admissible.{admissible-parts}
 use Rattle.division.proofs.Laws.Divided.{last-step, no-step-fails, step-given}
-use Rattle.division.proofs.Laws.Divisible.{divisible}
+use Rattle.division.proofs.Laws.Divisible.{step-range, divisible}
 use Rattle.division.proofs.Laws.Line.{as-given}
 use Rattle.division.proofs.Laws.Results.{step-result}
 use Rattle.division.proofs.Laws.Scaled.{equal-scaled}
@@ -70,10 +69,6 @@ mode-of (suc (suc (suc zero))) n h = (Sticky, refl)
 mode-of (suc (suc (suc (suc zero)))) n h = (Up, refl)
 mode-of (suc (suc (suc (suc (suc zero))))) n h = (Down, refl)
 mode-of (suc (suc (suc (suc (suc (suc k)))))) n h = absurd (omega arith)
-
-step-range : (k : ℕ) → isStep k ≡ true → (1 ≤ k) × (k ≤ 32)
-unfolding isStep
-step-range k h = range-true 1 32 k h
 
 -- two answers that are related where no row from 1 to 5 applies are related behind these rows
 unless-related : (R : Outcome → Outcome → Type 0) (p d : Number) (code n : ℕ) (a b : Outcome) → ((k : ℕ) → 1 ≤ k → k ≤ 5 → R (refused k) (refused k))

@@ -1,13 +1,26 @@
--- The refusals 1 to 5 in the table's order: what `unlessIndivisible` is behind each test. Rows 1 to 4 are those of every operation.
+-- The refusals in the table's order: what the tests of rows 2 and 6 say, and what `unlessIndivisible`, rows 1 to 5, is behind each test. Rows 1 to 4
+-- are those of every operation.
 use mathlib.Core.Path.{_≡_, _∙_}
 use mathlib.Core.Bool.{true, false}
 use Prim.Native.Nat.{ℕ, _≤_, _<_}
 use Rattle.numbers.specs.Answer.{Outcome, refused}
 use Rattle.numbers.specs.Number.{isAdmissible}
-use Rattle.numbers.specs.Rounding.{isPrecision}
+use Rattle.numbers.specs.Rounding.{taskOf, isPrecision}
 use Rattle.numbers.specs.declared.number.Number.{Number}
+use Rattle.numbers.specs.declared.task.Task.{Task}
 use Rattle.numbers.proofs.Laws.Refusals as rows
+use Rattle.numbers.proofs.Laws.Tests.{range-true}
 use Rattle.division.specs.Quotient.{isZero, unlessIndivisible}
+use Rattle.division.specs.Run.{IsTask}
+use Rattle.division.specs.Wanted.{isStep}
+
+-- what the tests of rows 2 and 6 say of a task and of a step
+pub task-range : (task : Task) (code n : ℕ) → task ≡ taskOf code n → isPrecision n ≡ true → IsTask task
+task-range task code n is precise = rw (is, rows.task-precision code n) (rows.precision-range n precise)
+
+pub step-range : (k : ℕ) → isStep k ≡ true → (1 ≤ k) × (k ≤ 32)
+unfolding isStep
+step-range k h = range-true 1 32 k h
 
 module _ (p d : Number) (code n : ℕ) (answer : Outcome) where
   pub unknown-mode : 5 < code → refused 1 ≡ unlessIndivisible p d code n answer

@@ -51,17 +51,15 @@ fails-refused (Exact claim) x =
 
 -- a line whose result is given does not fail
 line-holds : (outcome : Term → Outcome) (expression : Expression) (task : Task) (y : Number) → resultOf outcome expression task ≡ given y → fails outcome expression task ≡ false
-unfolding resultOf fails
+unfolding resultOf fails lineOf lineOfBoth failsOf failsOfBoth
 line-holds outcome (of exact a) task y h = go (outcome a) h
   where
     go : (r : Outcome) → lineOf task exact r ≡ given y → failsOf task exact r ≡ false
-    unfolding lineOf failsOf
     go (given x) h = fails-refused task (exact x) ∙ ap isRefusal h
     go (refused k) h = refl
 line-holds outcome (ofBoth exact a b) task y h = go (outcome a) (outcome b) h
   where
     go : (r s : Outcome) → lineOfBoth task exact r s ≡ given y → failsOfBoth task exact r s ≡ false
-    unfolding lineOfBoth failsOfBoth
     go (given x) (given z) h = fails-refused task (exact (value x) (value z)) ∙ ap isRefusal h
     go (given x) (refused k) h = refl
     go (refused k) s h = refl

@@ -23,8 +23,9 @@ returns-3 : tie.Need-returns-3
 returns-3 c =
     let second = c .before .before in
     let first = second .before .before .before in
-    let pre = first .before .before .pre in
-    both-given _ (pre .2) _ _ _ _ _ _ (first .a .given .1) (second .b .given .1) (pre .0) (pre .1) (c .operate .ensures)
+    let start = first .before .before in
+    let pre = start .pre in
+    both-given _ (pre .2) (start .args .operation) _ _ _ _ _ (first .a .given .1) (second .b .given .1) (pre .0) (pre .1) (c .operate .ensures)
 
 pub combined-spec : {M : Type 1} → statement M
 combined-spec = tie.close (tie.spec enum-known-a returns enum-known-b returns-2 operate-requires returns-3)

@@ -81,7 +81,7 @@ unfolding precisionOf
 combined-requires c κs = (c .seed2 .ensures .1, c .before .before .rounded .ensures .1, (lit≤ tt, lit≤ tt))
 
 returns-3 : tie.Need-returns-3
-returns-3 c = (λ p task. rw (c .if3 .taken) (third (c .before) p task), c .before .product .ensures .1)
+returns-3 c = (λ p task. rw (c .if3 .taken) (third (c .before) p task), c .before .combined .ensures .1)
 
 refined-requires : tie.Need-refined-requires
 refined-requires c κs =
@@ -99,7 +99,7 @@ combined-requires-2 c κs =
     (s .refined .ensures .1, s .before .before .before .before .before .rounded .ensures .1, (lit≤ tt, lit≤ tt))
 
 returns-5 : tie.Need-returns-5
-returns-5 c = (λ p task. rw (c .if5 .taken) (fifth (c .before) p task), c .before .product2 .ensures .1)
+returns-5 c = (λ p task. rw (c .if5 .taken) (fifth (c .before) p task), c .before .combined2 .ensures .1)
 
 refined-requires-2 : tie.Need-refined-requires-2
 refined-requires-2 c κs =

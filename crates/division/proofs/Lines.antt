@@ -9,7 +9,7 @@ use Rattle.numbers.specs.Rounding.{byMode, claim}
 use Rattle.numbers.specs.declared.number.Number.{Number}
 use Rattle.numbers.specs.declared.task.Mode.the-variants.{Trunc, Away}
 use Rattle.numbers.specs.declared.task.Task.{Task}
-use Rattle.division.specs.Run.{digitOf, lessOf, digitSteps, sumSteps, laterSteps}
+use Rattle.division.specs.Run.{digitOf, lessOf, stepsOf, digitSteps, sumSteps, laterSteps}
 use Rattle.division.specs.Steps.{seed, refined, Line, lines, lineOf, lineOfBoth, resultAt, termOf, resultOf, workedOut, afterStep}
 
 module _ (p d : Number) (task : Task) where
@@ -54,15 +54,15 @@ module _ (p d : Number) (task : Task) where
 
   -- steps 10 to 15, 16 to 21 and 22 to 27: a digit and the remainder after it
   pub first-digit-lines : digitSteps (at 9) (at 6) (at 7) (at 8) ≡ at 10 ∷ at 11 ∷ at 12 ∷ at 13 ∷ at 14 ∷ at 15 ∷ []
-  unfolding afterStep workedOut lines resultAt termOf resultOf digitSteps digitOf lessOf
+  unfolding afterStep workedOut lines resultAt termOf resultOf stepsOf digitOf lessOf
   first-digit-lines = refl
 
   pub second-digit-lines : digitSteps (at 15) (at 6) (at 7) (at 8) ≡ at 16 ∷ at 17 ∷ at 18 ∷ at 19 ∷ at 20 ∷ at 21 ∷ []
-  unfolding afterStep workedOut lines resultAt termOf resultOf digitSteps digitOf lessOf
+  unfolding afterStep workedOut lines resultAt termOf resultOf stepsOf digitOf lessOf
   second-digit-lines = refl
 
   pub third-digit-lines : digitSteps (at 21) (at 6) (at 7) (at 8) ≡ at 22 ∷ at 23 ∷ at 24 ∷ at 25 ∷ at 26 ∷ at 27 ∷ []
-  unfolding afterStep workedOut lines resultAt termOf resultOf digitSteps digitOf lessOf
+  unfolding afterStep workedOut lines resultAt termOf resultOf stepsOf digitOf lessOf
   third-digit-lines = refl
 
   -- steps 28 and 29, the last digit
@@ -84,7 +84,7 @@ module _ (p d : Number) (task : Task) where
       ≡ at 1 ∷ at 2 ∷ at 3 ∷ at 4 ∷ at 5 ∷ at 6 ∷ at 7 ∷ at 8 ∷ at 9 ∷ digitSteps (at 9) (at 6) (at 7) (at 8)
       ++ digitSteps (at 15) (at 6) (at 7) (at 8) ++ digitSteps (at 21) (at 6) (at 7) (at 8)
       ++ at 28 ∷ at 29 ∷ sumSteps task (at 11) (at 17) (at 23) (at 29)
-  unfolding afterStep workedOut lines resultAt termOf resultOf digitSteps digitOf lessOf sumSteps
+  unfolding afterStep workedOut lines resultAt termOf resultOf stepsOf digitOf lessOf sumSteps
   all-lines = refl
 
   -- the results are those of the lines on the results themselves
@@ -92,7 +92,12 @@ module _ (p d : Number) (task : Task) where
   unfolding workedOut lines resultAt termOf resultOf
   own-results = refl
 
+  -- steps 10 to 15
+  pub early-lines : take 6 (drop 9 (workedOut p d (lines task) [])) ≡ stepsOf (at 9) (at 11) (at 7) (at 8)
+  unfolding afterStep workedOut lines resultAt termOf resultOf stepsOf lessOf
+  early-lines = refl
+
   -- steps 16 to 32
   pub later-lines : take 17 (drop 15 (workedOut p d (lines task) [])) ≡ laterSteps task (at 11) (at 15) (at 6) (at 7) (at 8)
-  unfolding afterStep workedOut lines resultAt termOf resultOf digitSteps digitOf lessOf sumSteps laterSteps
+  unfolding afterStep workedOut lines resultAt termOf resultOf stepsOf digitOf lessOf sumSteps laterSteps
   later-lines = refl

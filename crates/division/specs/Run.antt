@@ -7,11 +7,12 @@ use lib.ListN.{getD}
 use Rattle.numbers.specs.Number.{isWorking}
 use Rattle.numbers.specs.Fraction.{Equal, value, sum, difference, product}
 use Rattle.numbers.specs.Rounding.{byMode, claim, precisionOf}
-use Rattle.numbers.specs.Answer.{Outcome, given, refused, rounded}
+use Rattle.numbers.specs.Answer.{Outcome, given, refused, outcome, rounded}
 use Rattle.numbers.specs.declared.number.Number.{Number}
 use Rattle.numbers.specs.declared.task.Mode.the-variants.{Trunc, Away, Sticky}
 use Rattle.numbers.specs.declared.task.Task.{Task}
-use Rattle.division.specs.Steps.{complement, lineOf, lineOfBoth}
+use Rattle.division.specs.Steps.{complement, lineOf, lineOfBoth, afterStep}
+use Rattle.division.specs.declared.digit.Divisor.{Divisor}
 
 -- a working number, or a refusal
 unfoldable pub IsResult : Outcome → Type 0
@@ -39,10 +40,10 @@ lessOf remainder digit half = lineOfBoth (claim 64) difference remainder (lineOf
 abbrev pub remainderAfter : Outcome → Outcome → Outcome → Outcome → Outcome
 remainderAfter remainder digit high low = lessOf (lessOf remainder digit high) digit low
 
--- the six steps of a digit and the remainder after it
-unfoldable pub digitSteps : Outcome → Outcome → Outcome → Outcome → List Outcome
-digitSteps remainder reciprocal high low =
-    let digit = digitOf (byMode Away 24) remainder reciprocal in
+-- the six steps of a digit: the remainder, trunc 32, the digit, its products with the halves of the divisor, the remainder less the first product, and
+-- less the second
+unfoldable pub stepsOf : Outcome → Outcome → Outcome → Outcome → List Outcome
+stepsOf remainder digit high low =
     lineOf (byMode Trunc 32) value remainder
     ∷ digit
     ∷ lineOfBoth (claim 64) product digit high
@@ -51,10 +52,12 @@ digitSteps remainder reciprocal high low =
     ∷ remainderAfter remainder digit high low
     ∷ []
 
--- the digit, its products with the halves of the divisor, and the remainder less the first product
 unfoldable pub digitStep : Outcome → Outcome → Outcome → Outcome → ℕ → Outcome
-digitStep remainder digit high low k =
-    getD (digit ∷ lineOfBoth (claim 64) product digit high ∷ lineOfBoth (claim 64) product digit low ∷ lessOf remainder digit high ∷ []) k (refused 6)
+digitStep remainder digit high low k = getD (stepsOf remainder digit high low) k (refused 6)
+
+-- those of one of the first three digits
+abbrev pub digitSteps : Outcome → Outcome → Outcome → Outcome → List Outcome
+digitSteps remainder reciprocal high low = stepsOf remainder (digitOf (byMode Away 24) remainder reciprocal) high low
 
 -- the three sums of the digits
 unfoldable pub sumSteps : Task → Outcome → Outcome → Outcome → Outcome → List Outcome
@@ -83,3 +86,12 @@ laterSteps task first remainder reciprocal high low =
 
 unfoldable pub laterStep : Task → Outcome → Outcome → Outcome → Outcome → Outcome → ℕ → Outcome
 laterStep task first remainder reciprocal high low k = getD (laterSteps task first remainder reciprocal high low) k (refused 6)
+
+-- what the digits need of a divisor: the values after steps 6 to 8, whatever the dividend and the task
+pub record IsDivisor (d : Number) (r : Divisor) : Type 0 where
+  pub reciprocal : (p : Number) (task : Task) → outcome (r .reciprocal) ≡ afterStep p d task 6
+  pub high : (p : Number) (task : Task) → outcome (r .high) ≡ afterStep p d task 7
+  pub low : (p : Number) (task : Task) → outcome (r .low) ≡ afterStep p d task 8
+  pub reciprocal-result : IsResult (outcome (r .reciprocal))
+  pub high-result : IsResult (outcome (r .high))
+  pub low-result : IsResult (outcome (r .low))

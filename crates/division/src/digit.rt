@@ -1,15 +1,17 @@
 // Steps 7 to 29: the halves of the divisor, and a digit with the remainder after it.
 ghost use mathlib.Core.Path.{_≡_};
-ghost use mathlib.Core.Bool.{true};
+ghost use mathlib.Core.Bool.{true, false};
 ghost use Prim.Native.Nat.{_≤_};
 ghost use Rattle.numbers.specs.Answer.{outcome};
 ghost use Rattle.numbers.specs.Number.{isAdmissible};
 ghost use Rattle.numbers.specs.declared.number.Number.{Number};
 ghost use Rattle.numbers.specs.declared.task.Task.{Task};
-ghost use Rattle.division.specs.Run.{IsResult, IsTask, digitOf, lessOf, remainderAfter, digitStep};
+ghost use Rattle.division.specs.Quotient.{isZero};
+ghost use Rattle.division.specs.Run.{IsResult, IsTask, IsDivisor, digitOf, lessOf, remainderAfter, digitStep};
 ghost use Rattle.division.specs.Steps.{afterStep};
 use super::line::combined;
 use super::line::rounded;
+use super::reciprocal::reciprocal_step;
 use super::tasks::EXACT_32;
 use super::tasks::EXACT_64;
 use super::tasks::TRUNC_32;
@@ -23,6 +25,21 @@ pub(crate) struct Divisor {
     pub reciprocal: Answer,
     pub high: Answer,
     pub low: Answer,
+}
+
+// Steps 6 to 8.
+pub(crate) fn divisor_of(d: Number) -> Divisor
+    requires { ⌜ (isAdmissible d ≡ true) × (isZero d ≡ false) ⌝ }
+    ensures { λ r. ⌜ IsDivisor d r ⌝ }
+{
+    let reciprocal = reciprocal_step(d, 6);
+    let high = high_half(d);
+    let low = low_half(d, high);
+    Divisor {
+        reciprocal,
+        high,
+        low,
+    }
 }
 
 // Step 7.
@@ -42,16 +59,17 @@ pub(crate) fn low_half(d: Number, high: Answer) -> Answer
 }
 
 // A digit of the remainder.
-pub(crate) fn digit_of(remainder: Answer, reciprocal: Answer, task: Task) -> Answer
-    requires { ⌜ IsResult (outcome remainder) × IsResult (outcome reciprocal) × IsTask task ⌝ }
-    ensures { λ r. ⌜ (outcome r ≡ digitOf task (outcome remainder) (outcome reciprocal)) × IsResult (outcome r) ⌝ }
+pub(crate) fn digit_of(remainder: Answer, divisor: Divisor, task: Task) -> Answer
+    requires { ⌜ IsResult (outcome remainder) × IsResult (outcome (divisor .reciprocal)) × IsTask task ⌝ }
+    ensures { λ r. ⌜ (outcome r ≡ digitOf task (outcome remainder) (outcome (divisor .reciprocal))) × IsResult (outcome r) ⌝ }
 {
     let upper = rounded(remainder, TRUNC_32);
+    let reciprocal = divisor.reciprocal;
     combined(Operation::Product, upper, reciprocal, task)
 }
 
 // The remainder less the digit's product with a half of the divisor.
-pub(crate) fn less_product(remainder: Answer, digit: Answer, half: Answer) -> Answer
+fn less_product(remainder: Answer, digit: Answer, half: Answer) -> Answer
     requires { ⌜ IsResult (outcome remainder) × IsResult (outcome digit) × IsResult (outcome half) ⌝ }
     ensures { λ r. ⌜ (outcome r ≡ lessOf (outcome remainder) (outcome digit) (outcome half)) × IsResult (outcome r) ⌝ }
 {
@@ -69,18 +87,20 @@ pub(crate) fn remainder_after(remainder: Answer, digit: Answer, divisor: Divisor
     less_product(less_product(remainder, digit, high), digit, low)
 }
 
-// One of four steps, counted from 0: the digit, its products with the halves of the divisor, and the
-// remainder less the first product.
+// One of the six steps of a digit, counted from 0: the remainder, trunc 32, the digit, its products
+// with the halves of the divisor, the remainder less the first product, and less the second.
 pub(crate) fn digit_step(remainder: Answer, digit: Answer, divisor: Divisor, wanted: u32) -> Answer
-    requires { ⌜ IsResult (outcome remainder) × IsResult (outcome digit) × IsResult (outcome (divisor .high)) × IsResult (outcome (divisor .low)) × (wanted ≤ 3) ⌝ }
+    requires { ⌜ IsResult (outcome remainder) × IsResult (outcome digit) × IsResult (outcome (divisor .high)) × IsResult (outcome (divisor .low)) × (wanted ≤ 5) ⌝ }
     ensures { λ r. ⌜ outcome r ≡ digitStep (outcome remainder) (outcome digit) (outcome (divisor .high)) (outcome (divisor .low)) wanted ⌝ }
 {
     let high = divisor.high;
     let low = divisor.low;
     match wanted {
-        0 => digit,
-        1 => combined(Operation::Product, digit, high, EXACT_64),
-        2 => combined(Operation::Product, digit, low, EXACT_64),
-        _ => less_product(remainder, digit, high),
+        0 => rounded(remainder, TRUNC_32),
+        1 => digit,
+        2 => combined(Operation::Product, digit, high, EXACT_64),
+        3 => combined(Operation::Product, digit, low, EXACT_64),
+        4 => less_product(remainder, digit, high),
+        _ => remainder_after(remainder, digit, divisor),
     }
 }

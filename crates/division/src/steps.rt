@@ -1,5 +1,5 @@
-// All thirty-two steps: the value after any one of them, for board testers. A step that the wanted
-// one does not need is not worked out.
+// All thirty-two steps: the value after any one of them, for board testers. A run ends at the wanted
+// step.
 ghost use mathlib.Core.Path.{_≡_};
 ghost use mathlib.Core.Bool.{true, false};
 ghost use Prim.Native.Nat.{_-_, _≤_};
@@ -13,8 +13,8 @@ use super::answer::Step;
 use super::digit::Divisor;
 use super::digit::digit_of;
 use super::digit::digit_step;
+use super::digit::divisor_of;
 use super::digit::high_half;
-use super::digit::less_product;
 use super::digit::low_half;
 use super::digit::remainder_after;
 use super::line::combined;
@@ -125,8 +125,7 @@ fn after_step(p: Number, d: Number, task: Task, wanted: u32) -> Answer
     digits_step(p, d, task, wanted)
 }
 
-// The value after one of the steps 9 to 32. The reciprocal and the halves of the divisor are worked
-// out only for the steps that need them.
+// The value after one of the steps 9 to 32.
 fn digits_step(p: Number, d: Number, task: Task, wanted: u32) -> Answer
     requires { ⌜ (isAdmissible p ≡ true) × (isAdmissible d ≡ true) × (isZero d ≡ false) × IsTask task × (9 ≤ wanted) × (wanted ≤ 32) ⌝ }
     ensures { λ r. ⌜ outcome r ≡ afterStep p d task wanted ⌝ }
@@ -135,34 +134,12 @@ fn digits_step(p: Number, d: Number, task: Task, wanted: u32) -> Answer
     if wanted == 9 {
         return remainder;
     }
-    if wanted == 10 {
-        return rounded(remainder, TRUNC_32);
+    let divisor = divisor_of(d);
+    let q0 = digit_of(remainder, divisor, AWAY_24);
+    if wanted <= 15 {
+        return digit_step(remainder, q0, divisor, wanted - 10);
     }
-    let reciprocal = reciprocal_step(d, 6);
-    let q0 = digit_of(remainder, reciprocal, AWAY_24);
-    if wanted == 11 {
-        return q0;
-    }
-    let high = high_half(d);
-    if wanted == 12 {
-        return combined(Operation::Product, q0, high, EXACT_64);
-    }
-    if wanted == 14 {
-        return less_product(remainder, q0, high);
-    }
-    let low = low_half(d, high);
-    if wanted == 13 {
-        return combined(Operation::Product, q0, low, EXACT_64);
-    }
-    let divisor = Divisor {
-        reciprocal,
-        high,
-        low,
-    };
     let remainder = remainder_after(remainder, q0, divisor);
-    if wanted == 15 {
-        return remainder;
-    }
     later_step(q0, remainder, divisor, task, wanted)
 }
 
@@ -171,33 +148,20 @@ fn later_step(q0: Answer, remainder: Answer, divisor: Divisor, task: Task, wante
     requires { ⌜ IsResult (outcome q0) × IsResult (outcome remainder) × IsResult (outcome (divisor .reciprocal)) × IsResult (outcome (divisor .high)) × IsResult (outcome (divisor .low)) × IsTask task × (16 ≤ wanted) × (wanted ≤ 32) ⌝ }
     ensures { λ r. ⌜ outcome r ≡ laterStep task (outcome q0) (outcome remainder) (outcome (divisor .reciprocal)) (outcome (divisor .high)) (outcome (divisor .low)) (wanted - 16) ⌝ }
 {
-    if wanted == 16 {
-        return rounded(remainder, TRUNC_32);
-    }
-    let reciprocal = divisor.reciprocal;
-    let q1 = digit_of(remainder, reciprocal, AWAY_24);
-    if wanted <= 20 {
-        return digit_step(remainder, q1, divisor, wanted - 17);
+    let q1 = digit_of(remainder, divisor, AWAY_24);
+    if wanted <= 21 {
+        return digit_step(remainder, q1, divisor, wanted - 16);
     }
     let remainder = remainder_after(remainder, q1, divisor);
-    if wanted == 21 {
-        return remainder;
-    }
-    if wanted == 22 {
-        return rounded(remainder, TRUNC_32);
-    }
-    let q2 = digit_of(remainder, reciprocal, AWAY_24);
-    if wanted <= 26 {
-        return digit_step(remainder, q2, divisor, wanted - 23);
+    let q2 = digit_of(remainder, divisor, AWAY_24);
+    if wanted <= 27 {
+        return digit_step(remainder, q2, divisor, wanted - 22);
     }
     let remainder = remainder_after(remainder, q2, divisor);
-    if wanted == 27 {
-        return remainder;
-    }
     if wanted == 28 {
         return rounded(remainder, TRUNC_32);
     }
-    let q3 = digit_of(remainder, reciprocal, TRUNC_24);
+    let q3 = digit_of(remainder, divisor, TRUNC_24);
     last_step(q0, q1, q2, q3, task, wanted)
 }
 

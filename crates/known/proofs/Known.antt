@@ -19,7 +19,7 @@ use Rattle.division.specs.Quotient.{isZero, unlessIndivisible, quotientOf}
 use Rattle.division.specs.Steps.{nearest, entryOf}
 
 -- what an operation, a division or a reading answers; what a writing leaves, its refusal and its bytes as one whole number; or an entry of the seed table
-data Result : Type 0 where
+pub data Result : Type 0 where
   answered : Outcome → Result
   wrote : Option ℕ → ℕ → Result
   entry : ℕ → Result
@@ -97,7 +97,7 @@ writtenOver writing length old x = let l = writing x (bytesOf length old) in wro
 
 -- ---- the list
 
-unfoldable values : List (Result × Result)
+unfoldable pub values : List (Result × Result)
 values =
     -- P1 to P3: 1/3 near 64, trunc, sticky
     (divided one three near 64, is (finite (minus 0 2) 0xAAAAAAAAAAAAAAAB))

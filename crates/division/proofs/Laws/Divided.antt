@@ -21,7 +21,7 @@ use Rattle.numbers.specs.declared.task.Mode.the-variants.{Trunc, Away}
 use Rattle.numbers.proofs.Laws.Rounded.{value-fraction}
 use Rattle.numbers.proofs.Laws.Same.{same-number}
 use Rattle.numbers.proofs.Laws.Value.{rounded-zero}
-use Rattle.division.specs.Run.{digitOf, lessOf, digitSteps, sumSteps}
+use Rattle.division.specs.Run.{digitOf, lessOf, stepsOf, digitSteps, sumSteps}
 use Rattle.division.specs.Steps.{lines, lineOf, lineOfBoth, resultAt, workedOut, afterStep, Fails}
 use Rattle.division.proofs.Laws.Admissible.{admissible-parts, admissible-working}
 use Rattle.division.proofs.Laws.Digit.{digit-away, digit-trunc}
@@ -161,7 +161,7 @@ module _ (s : Bool) (b D : ℕ) (range : InRange 49089 b D) (p : Number) (fit : 
 
     digit-given : {g c : ℕ} {x : Number} (y : Outcome) → y ≡ given x → (a : HasDigit Away b D g d r x) (m : HasNext b D (a .unit) c d h l x (a .digit))
         → digitSteps y (at 6) (at 7) (at 8) ≡ map given (digitNumbers a m)
-    unfolding digitSteps digitOf lessOf lineOf lineOfBoth
+    unfolding stepsOf digitOf lessOf lineOf lineOfBoth
     digit-given y is a m =
         rw (is, early .after-6, early .after-7, early .after-8, a .first-step, a .second-step, m .high-step, m .low-step, m .less-step, m .next-step)
 

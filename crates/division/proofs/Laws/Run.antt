@@ -12,10 +12,10 @@ use Rattle.numbers.specs.Number.{isAdmissible}
 use Rattle.numbers.specs.declared.answer.Answer.the-variants.{Given}
 use Rattle.numbers.specs.declared.number.Number.{Number}
 use Rattle.numbers.specs.declared.task.Task.{Task}
-use Rattle.division.specs.Run.{IsResult, laterStep}
+use Rattle.division.specs.Run.{IsResult, digitStep, laterStep}
 use Rattle.division.specs.Steps.{lines, resultAt, workedOut, afterStep}
 use Rattle.division.proofs.Laws.Admissible.{admissible-working}
-use Rattle.division.proofs.Lines.{later-lines}
+use Rattle.division.proofs.Lines.{early-lines, later-lines}
 
 -- an admissible operand is a result
 pub operand-result : (x : Number) → isAdmissible x ≡ true → IsResult (outcome (Given x))
@@ -39,6 +39,15 @@ counted-from-one : (xs : List Outcome) (k : ℕ) → 1 ≤ k → getD xs (k - 1)
 unfolding resultAt
 counted-from-one xs zero low = absurd (not-suc-le-zero low)
 counted-from-one xs (suc j) low = ap (λ (i : ℕ). getD xs i (refused 6)) (omega arith)
+
+-- steps 10 to 15
+pub first-value : (p d : Number) (task : Task) (k : ℕ) → 10 ≤ k → k ≤ 15 →
+    let at = afterStep p d task in
+    digitStep (at 9) (at 11) (at 7) (at 8) (k - 10) ≡ at k
+unfolding digitStep afterStep
+first-value p d task k low high =
+    let results = workedOut p d (lines task) [] in
+    part-item results _ 6 9 1 k (early-lines p d task) low (omega arith) ∙ counted-from-one results k (omega arith)
 
 -- steps 16 to 32
 pub later-value : (p d : Number) (task : Task) (k : ℕ) → 16 ≤ k → k ≤ 32 →

@@ -10,7 +10,6 @@ unfolding precisionOf
 rounded-requires c κs = search needs
 
 combined-requires : tie.Need-combined-requires
-unfolding precisionOf
 combined-requires c κs = search needs
 
 returns : tie.Need-returns

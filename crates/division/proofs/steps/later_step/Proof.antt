@@ -7,7 +7,7 @@ use Rattle.numbers.specs.Answer.{Outcome, outcome}
 use Rattle.numbers.specs.Rounding.{byMode, precisionOf}
 use Rattle.numbers.specs.declared.task.Mode.the-variants.{Trunc, Away}
 use Rattle.numbers.specs.declared.task.Task.{Task}
-use Rattle.division.specs.Run.{digitOf, remainderAfter, digitSteps, digitStep, sumSteps, lastStep, laterSteps, laterStep}
+use Rattle.division.specs.Run.{digitOf, remainderAfter, stepsOf, digitStep, sumSteps, lastStep, laterSteps, laterStep}
 use Rattle.division.proofs.Laws.Run.{part-item}
 use Rattle.division.proofs.steps.later_step.Statement.{statement}
 use Rattle.division.proofs.steps.later_step.Tie as tie
@@ -31,25 +31,17 @@ module _ (r1 s h l : Outcome) where
 
   -- the steps that other functions work out
   module _ (task : Task) (q0 : Outcome) (k : ℕ) where
-    second-digit : 17 ≤ k → k ≤ 20 → digitStep r1 q1 h l (k - 17) ≡ laterStep task q0 r1 s h l (k - 16)
-    unfolding digitStep laterStep laterSteps digitSteps
-    second-digit low high = part-item (laterSteps task q0 r1 s h l) _ 4 1 16 k refl low (omega arith)
+    second-digit : 16 ≤ k → k ≤ 21 → digitStep r1 q1 h l (k - 16) ≡ laterStep task q0 r1 s h l (k - 16)
+    unfolding digitStep laterStep laterSteps stepsOf
+    second-digit low high = part-item (laterSteps task q0 r1 s h l) _ 6 0 16 k refl low (omega arith)
 
-    third-digit : 23 ≤ k → k ≤ 26 → digitStep r2 q2 h l (k - 23) ≡ laterStep task q0 r1 s h l (k - 16)
-    unfolding digitStep laterStep laterSteps digitSteps
-    third-digit low high = part-item (laterSteps task q0 r1 s h l) _ 4 7 16 k refl low (omega arith)
+    third-digit : 22 ≤ k → k ≤ 27 → digitStep r2 q2 h l (k - 22) ≡ laterStep task q0 r1 s h l (k - 16)
+    unfolding digitStep laterStep laterSteps stepsOf
+    third-digit low high = part-item (laterSteps task q0 r1 s h l) _ 6 6 16 k refl low (omega arith)
 
     last-steps : 29 ≤ k → k ≤ 32 → lastStep task q0 q1 q2 q3 (k - 29) ≡ laterStep task q0 r1 s h l (k - 16)
-    unfolding lastStep laterStep laterSteps digitSteps sumSteps
+    unfolding lastStep laterStep laterSteps stepsOf sumSteps
     last-steps low high = part-item (laterSteps task q0 r1 s h l) _ 4 13 16 k refl low (omega arith)
-
-rounded-requires : tie.Need-rounded-requires
-unfolding precisionOf
-rounded-requires c κs = search needs
-
-returns : tie.Need-returns
-unfolding laterStep laterSteps digitSteps
-returns c = rw (c .before .if1 .taken) (c .rounded .ensures .0)
 
 digit-of-requires : tie.Need-digit-of-requires
 unfolding precisionOf
@@ -61,29 +53,17 @@ sub-digit-step c = search needs
 digit-step-requires : tie.Need-digit-step-requires
 digit-step-requires c κs = search needs
 
-returns-2 : tie.Need-returns-2
-returns-2 c = rw (c .digit-step .ensures, c .before .before .digit-of .ensures .0) (second-digit _ _ _ _ _ _ _ (omega arith) (omega arith))
+returns : tie.Need-returns
+returns c = rw (c .digit-step .ensures, c .before .before .digit-of .ensures .0) (second-digit _ _ _ _ _ _ _ (omega arith) (omega arith))
 
 remainder-after-requires : tie.Need-remainder-after-requires
 remainder-after-requires c κs = search needs
 
 third-remainder : (c : tie.After-remainder-after) →
-    let args = c .before .before .before .before .args in
+    let args = c .before .before .before .args in
     let divisor = args .divisor in
     outcome (c .remainder-after .result) ≡ r2 (outcome (args .remainder)) (outcome (divisor .reciprocal)) (outcome (divisor .high)) (outcome (divisor .low))
 third-remainder c = rw (c .remainder-after .ensures .0, c .before .before .digit-of .ensures .0)
-
-returns-3 : tie.Need-returns-3
-unfolding laterStep laterSteps digitSteps
-returns-3 c = rw (c .if3 .taken) (third-remainder (c .before))
-
-rounded-requires-2 : tie.Need-rounded-requires-2
-unfolding precisionOf
-rounded-requires-2 c κs = search needs
-
-returns-4 : tie.Need-returns-4
-unfolding laterStep laterSteps digitSteps
-returns-4 c = rw (c .before .if4 .taken, c .rounded2 .ensures .0, third-remainder (c .before .before .before))
 
 digit-of-requires-2 : tie.Need-digit-of-requires-2
 unfolding precisionOf
@@ -95,33 +75,29 @@ sub-digit-step-2 c = search needs
 digit-step-requires-2 : tie.Need-digit-step-requires-2
 digit-step-requires-2 c κs = search needs
 
-returns-5 : tie.Need-returns-5
-returns-5 c =
+returns-2 : tie.Need-returns-2
+returns-2 c =
     let digit = c .before .before in
-    rw (c .digit-step2 .ensures, digit .digit-of2 .ensures .0, third-remainder (digit .before .before .before)) (third-digit _ _ _ _ _ _ _ (omega arith) (omega arith))
+    rw (c .digit-step2 .ensures, digit .digit-of2 .ensures .0, third-remainder (digit .before)) (third-digit _ _ _ _ _ _ _ (omega arith) (omega arith))
 
 remainder-after-requires-2 : tie.Need-remainder-after-requires-2
 remainder-after-requires-2 c κs = search needs
 
 fourth-remainder : (c : tie.After-remainder-after2) →
-    let args = c .before .before .before .before .before .before .before .before .before .args in
+    let args = c .before .before .before .before .before .before .args in
     let divisor = args .divisor in
     outcome (c .remainder-after2 .result) ≡ r3 (outcome (args .remainder)) (outcome (divisor .reciprocal)) (outcome (divisor .high)) (outcome (divisor .low))
 fourth-remainder c =
     let digit = c .before .before in
-    rw (c .remainder-after2 .ensures .0, digit .digit-of2 .ensures .0, third-remainder (digit .before .before .before))
+    rw (c .remainder-after2 .ensures .0, digit .digit-of2 .ensures .0, third-remainder (digit .before))
 
-returns-6 : tie.Need-returns-6
-unfolding laterStep laterSteps digitSteps
-returns-6 c = rw (c .if6 .taken) (fourth-remainder (c .before))
-
-rounded-requires-3 : tie.Need-rounded-requires-3
+rounded-requires : tie.Need-rounded-requires
 unfolding precisionOf
-rounded-requires-3 c κs = search needs
+rounded-requires c κs = search needs
 
-returns-7 : tie.Need-returns-7
-unfolding laterStep laterSteps digitSteps
-returns-7 c = rw (c .before .if7 .taken, c .rounded3 .ensures .0, fourth-remainder (c .before .before .before))
+returns-3 : tie.Need-returns-3
+unfolding laterStep laterSteps stepsOf
+returns-3 c = rw (c .before .if3 .taken, c .rounded .ensures .0, fourth-remainder (c .before .before))
 
 digit-of-requires-3 : tie.Need-digit-of-requires-3
 unfolding precisionOf
@@ -130,41 +106,31 @@ digit-of-requires-3 c κs = search needs
 last-step-requires : tie.Need-last-step-requires
 last-step-requires c κs = search needs
 
--- a step past those tested
-past : (c : tie.Else7) → 29 ≤ c .before .before .before .before .before .before .before .before .before .before .before .args .wanted
-past c = omega arith
-
-returns-8 : tie.Need-returns-8
-returns-8 c =
-    let fourth = c .before .before .before .before in
+returns-4 : tie.Need-returns-4
+returns-4 c =
+    let fourth = c .before .before .before in
     let digit = fourth .before .before in
-    let third = digit .before .before .before in
+    let third = digit .before in
     let second = third .before .before in
     rw (c .last-step .ensures, c .before .digit-of3 .ensures .0, fourth-remainder fourth, digit .digit-of2 .ensures .0, third-remainder third, second .digit-of .ensures .0)
-    (last-steps _ _ _ _ _ _ _ (past (c .before .before)) (second .before .before .pre .7))
+    (last-steps _ _ _ _ _ _ _ (omega arith) (second .before .pre .7))
 
 pub later-step-spec : {M : Type 1} → statement M
 later-step-spec =
     tie.close
     (tie.spec
-    rounded-requires
-    returns
     digit-of-requires
     sub-digit-step
     digit-step-requires
-    returns-2
+    returns
     remainder-after-requires
-    returns-3
-    rounded-requires-2
-    returns-4
     digit-of-requires-2
     sub-digit-step-2
     digit-step-requires-2
-    returns-5
+    returns-2
     remainder-after-requires-2
-    returns-6
-    rounded-requires-3
-    returns-7
+    rounded-requires
+    returns-3
     digit-of-requires-3
     last-step-requires
-    returns-8)
+    returns-4)

@@ -38,7 +38,7 @@ unfolding IsBytes
 returns c =
     let known = c .before .before .before .before .before in
     let parts = read-parts 8 10 (lit≤ tt) _ (known .before .pre) _ _ (λ (i : ℕ). known .shared-slice-known .given i .fits) (lit≤ tt) (lit≤ tt)
-        (c .before .before .before .read .ensures) (c .before .read2 .ensures) in
+    (c .before .before .before .read .ensures) (c .before .read2 .ensures) in
     rw (c .from-bits .ensures .0, c .from-bits .ensures .1, mod-eq-of-lt (parts .1)) (parts .0)
 
 pub from-bytes-spec : {M : Type 1} → statement M

@@ -1,24 +1,37 @@
-// Cases of add, subtract and multiply.
+// Cases of add, subtract, multiply and divide.
 use super::answer;
+use super::answer::Outcome;
 use super::arguments;
 use super::arguments::Arguments;
+use super::line;
 use super::line::Cursor;
 use super::line::Line;
-use numbers::answer::Answer;
+use super::line::Place;
+use division::quotient::divide;
 use numbers::number::Number;
 use numbers::operation::add;
 use numbers::operation::multiply;
 use numbers::operation::subtract;
 
-// Which of the three entries a case calls.
+// Which of the four entries a case calls.
 pub enum Operation {
     Add,
     Subtract,
     Multiply,
+    Divide,
 }
 
-// Prints the answer to the case whose operation's word ends at the cursor.
-pub fn run(text: &Line, c: Cursor, operation: Operation) {
+// Prints the answer to a line that begins with the operation's token; false where it does not.
+pub fn run(text: &Line, token: u64, operation: Operation) -> bool {
+    let Place::Past(c) = line::begun(text, token) else {
+        return false;
+    };
+    run_at(text, c, operation);
+    true
+}
+
+// Prints the answer to the case whose token ends at the cursor.
+fn run_at(text: &Line, c: Cursor, operation: Operation) {
     let Arguments::Read {
         code,
         precision,
@@ -28,20 +41,20 @@ pub fn run(text: &Line, c: Cursor, operation: Operation) {
     else {
         return answer::print_no_case();
     };
-    let done = answer_of(operation, first, second, code, precision);
-    answer::print(answer::of_operation(done));
+    answer::print(outcome_of(operation, first, second, code, precision));
 }
 
-fn answer_of(
+fn outcome_of(
     operation: Operation,
     first: Number,
     second: Number,
     code: u32,
     precision: u32,
-) -> Answer {
+) -> Outcome {
     match operation {
-        Operation::Add => add(first, second, code, precision),
-        Operation::Subtract => subtract(first, second, code, precision),
-        Operation::Multiply => multiply(first, second, code, precision),
+        Operation::Add => answer::of_operation(add(first, second, code, precision)),
+        Operation::Subtract => answer::of_operation(subtract(first, second, code, precision)),
+        Operation::Multiply => answer::of_operation(multiply(first, second, code, precision)),
+        Operation::Divide => answer::of_quotient(divide(first, second, code, precision)),
     }
 }

@@ -1,14 +1,25 @@
 // Reads and prints a buffer: two hexadecimal digits for each byte, in lower case, or `-` where it has
 // none.
 ghost use Prim.Native.Nat.{_≤_};
+ghost use lib.ListN.{length};
 use super::line;
 use super::line::Cursor;
 use super::line::Line;
 use super::line::Place;
 use super::out;
 
+// What stands for a buffer of no bytes, as a token.
+const DASH: u64 = 0x2d;
+
 // The most bytes that a buffer has: more than a code of either format.
 pub const MOST: usize = 16;
+
+// A buffer of a line: its bytes, how many there are, and the place past them.
+pub struct Buffer {
+    pub bytes: [u8; MOST],
+    pub length: usize,
+    pub place: Place,
+}
 
 // A byte of a line.
 enum Byte {
@@ -36,40 +47,32 @@ fn read_byte(text: &Line, c: Cursor) -> Byte {
     }
 }
 
-// How many bytes stand at the cursor, or the most if there are more.
-pub(crate) fn length(text: &Line, c: Cursor) -> usize
-    ensures { λ r. ⌜ r ≤ 16 ⌝ }
+// The buffer at the cursor: as many bytes as stand there, and the most if there are more.
+pub fn read(text: &Line, c: Cursor) -> Buffer
+    ensures { λ r. ⌜ r .length ≤ length (r .bytes) ⌝ }
 {
+    let mut bytes = [0u8; MOST];
+    let mut length = 0;
     let mut at = c.at;
-    let mut n = 0;
-    while n < MOST {
-        let Byte::Read { value: _, next } = read_byte(text, Cursor { at }) else {
-            return n;
-        };
-        at = next.at;
-        n += 1;
-    }
-    n
-}
-
-// Fills the bytes, as many as `length` says, with those at the cursor.
-pub fn read(text: &Line, c: Cursor, bytes: &mut [u8]) -> Place {
-    if bytes.len() == 0 {
-        return line::past(text, c, b"-");
-    }
-    fill(text, c, bytes)
-}
-
-fn fill(text: &Line, c: Cursor, bytes: &mut [u8]) -> Place {
-    let mut at = c.at;
-    let mut i = 0;
-    while i < bytes.len() {
+    while length < MOST {
         let Byte::Read { value, next } = read_byte(text, Cursor { at }) else {
-            return Place::Other;
+            break;
         };
-        bytes[i] = value;
+        bytes[length] = value;
         at = next.at;
-        i += 1;
+        length += 1;
+    }
+    Buffer {
+        bytes,
+        length,
+        place: past(text, c, at, length),
+    }
+}
+
+// The place past a buffer: behind its last byte, or behind the dash.
+fn past(text: &Line, c: Cursor, at: usize, length: usize) -> Place {
+    if length == 0 {
+        return line::past(text, c, DASH);
     }
     Place::Past(Cursor { at })
 }

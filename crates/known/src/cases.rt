@@ -1,45 +1,59 @@
-// The operation words, and what runs the case of a line that begins with one.
+// The tokens that a line begins with, and what runs its case.
 use super::answer;
 use super::arithmetic;
 use super::arithmetic::Operation;
-use super::divisions;
 use super::formats;
 use super::formats::Entry;
 use super::formats::Format;
-use super::line;
-use super::line::Cursor;
 use super::line::Line;
-use super::line::Place;
+use super::steps;
 
-// Prints the answer to a line. The word of a code case ends in a space; a buffer follows.
+const ADD: u64 = 0x64_6461; // add
+
+const SUBTRACT: u64 = 0x62_7573; // sub
+
+const MULTIPLY: u64 = 0x6c_756d; // mul
+
+const DIVIDE: u64 = 0x76_6964; // div
+
+const STEP: u64 = 0x7065_7473; // step
+
+const READ_10: u64 = 0x20_3031_6461_6572; // read10 and a space
+
+const READ_8: u64 = 0x2038_6461_6572; // read8 and a space
+
+const WRITE_10: u64 = 0x2030_3165_7469_7277; // write10 and a space
+
+const WRITE_8: u64 = 0x20_3865_7469_7277; // write8 and a space
+
+// Prints the answer to a line. What runs a case says whether the line begins with its token.
 pub fn run(text: &Line) {
-    let start = Cursor { at: 0 };
-    if let Place::Past(next) = line::past(text, start, b"add") {
-        return arithmetic::run(text, next, Operation::Add);
+    if arithmetic::run(text, ADD, Operation::Add) {
+        return;
     }
-    if let Place::Past(next) = line::past(text, start, b"sub") {
-        return arithmetic::run(text, next, Operation::Subtract);
+    if arithmetic::run(text, SUBTRACT, Operation::Subtract) {
+        return;
     }
-    if let Place::Past(next) = line::past(text, start, b"mul") {
-        return arithmetic::run(text, next, Operation::Multiply);
+    if arithmetic::run(text, MULTIPLY, Operation::Multiply) {
+        return;
     }
-    if let Place::Past(next) = line::past(text, start, b"div") {
-        return divisions::run_quotient(text, next);
+    if arithmetic::run(text, DIVIDE, Operation::Divide) {
+        return;
     }
-    if let Place::Past(next) = line::past(text, start, b"step") {
-        return divisions::run_step(text, next);
+    if steps::run(text, STEP) {
+        return;
     }
-    if let Place::Past(next) = line::past(text, start, b"read10 ") {
-        return formats::run(text, next, Entry::Read(Format::DoubleExtended));
+    if formats::run(text, READ_10, Entry::Read(Format::DoubleExtended)) {
+        return;
     }
-    if let Place::Past(next) = line::past(text, start, b"read8 ") {
-        return formats::run(text, next, Entry::Read(Format::Binary64));
+    if formats::run(text, READ_8, Entry::Read(Format::Binary64)) {
+        return;
     }
-    if let Place::Past(next) = line::past(text, start, b"write10 ") {
-        return formats::run(text, next, Entry::Write(Format::DoubleExtended));
+    if formats::run(text, WRITE_10, Entry::Write(Format::DoubleExtended)) {
+        return;
     }
-    if let Place::Past(next) = line::past(text, start, b"write8 ") {
-        return formats::run(text, next, Entry::Write(Format::Binary64));
+    if formats::run(text, WRITE_8, Entry::Write(Format::Binary64)) {
+        return;
     }
     answer::print_no_case();
 }

@@ -25,21 +25,27 @@ pub enum Entry {
     Write(Format),
 }
 
-// Prints the answer to the case whose buffer stands at the cursor.
-pub fn run(text: &Line, c: Cursor, entry: Entry) {
-    let mut content = [0u8; buffer::MOST];
-    let length = buffer::length(text, c);
-    run_with(text, c, entry, &mut content[..length]);
+// Prints the answer to a line that begins with the entry's token; false where it does not.
+pub fn run(text: &Line, token: u64, entry: Entry) -> bool {
+    let Place::Past(c) = line::begun(text, token) else {
+        return false;
+    };
+    run_at(text, c, entry);
+    true
 }
 
-// The same, with the bytes that hold the buffer.
-fn run_with(text: &Line, c: Cursor, entry: Entry, bytes: &mut [u8]) {
-    let Place::Past(next) = buffer::read(text, c, bytes) else {
+// Prints the answer to the case whose buffer stands at the cursor.
+fn run_at(text: &Line, c: Cursor, entry: Entry) {
+    let found = buffer::read(text, c);
+    let place = found.place;
+    let Place::Past(next) = place else {
         return answer::print_no_case();
     };
+    let length = found.length;
+    let mut content = found.bytes;
     match entry {
-        Entry::Read(format) => run_read(text, next, format, bytes),
-        Entry::Write(format) => run_write(text, next, format, bytes),
+        Entry::Read(format) => run_read(text, next, format, &content[..length]),
+        Entry::Write(format) => run_write(text, next, format, &mut content[..length]),
     }
 }
 

@@ -1,10 +1,14 @@
 // Reads a line from left to right. A cursor says where the next byte stands, and what reads
-// something answers with the cursor past it.
+// something answers with the cursor past it. A token of at most eight letters is a number: its
+// first letter is the lowest byte.
 
 // The bytes of a line, its newline among them.
 pub const WIDTH: usize = 80;
 
 pub type Line = [u8; WIDTH];
+
+// A space, as a token.
+pub const SPACE: u64 = 0x20;
 
 // A decimal number above this is too large for every field.
 const LARGEST: u64 = 0xffff_ffff;
@@ -32,21 +36,26 @@ pub enum Word {
     Unreadable,
 }
 
-// Do these bytes stand at the cursor?
-pub fn past(text: &Line, c: Cursor, bytes: &[u8]) -> Place {
+// Do the letters of the token stand at the cursor?
+pub fn past(text: &Line, c: Cursor, token: u64) -> Place {
     let mut at = c.at;
-    let mut i = 0;
-    while i < bytes.len() {
+    let mut left = token;
+    while left > 0 {
         if at >= WIDTH {
             return Place::Other;
         }
-        if text[at] != bytes[i] {
+        if wide(text[at]) != left % 256 {
             return Place::Other;
         }
         at += 1;
-        i += 1;
+        left = left / 256;
     }
     Place::Past(Cursor { at })
+}
+
+// The place past the token that a line begins with.
+pub fn begun(text: &Line, token: u64) -> Place {
+    past(text, Cursor { at: 0 }, token)
 }
 
 // The value of a decimal or hexadecimal digit, and 16 for any other byte.
@@ -121,7 +130,7 @@ pub fn read_sixteen_digits(text: &Line, c: Cursor) -> Whole {
 
 // A space and a decimal number below 2^32.
 pub fn read_word(text: &Line, c: Cursor) -> Word {
-    let Place::Past(start) = past(text, c, b" ") else {
+    let Place::Past(start) = past(text, c, SPACE) else {
         return Word::Unreadable;
     };
     let Whole::Read { value, next } = read_decimal(text, start) else {

@@ -5,12 +5,12 @@ mod arguments;
 mod arithmetic;
 mod buffer;
 mod cases;
-mod divisions;
 mod formats;
 mod line;
 mod number;
 mod out;
 mod signed;
+mod steps;
 
 // Reads one line and prints its answer. False where no whole line is left.
 fn run_line() -> bool {

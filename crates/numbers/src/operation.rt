@@ -88,10 +88,11 @@ pub fn round(x: Number, task: Task) -> Answer
     if !is_precise(task) {
         return Answer::BadPrecision;
     }
-    if !is_working(x) {
-        return Answer::FirstUnfit;
+    if is_working(x) {
+        rounded_operand(operand_of(x), task)
+    } else {
+        Answer::FirstUnfit
     }
-    rounded_operand(operand_of(x), task)
 }
 
 // The answer for two working numbers: the exact operation, rounded once by the task.

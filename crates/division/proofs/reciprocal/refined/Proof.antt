@@ -24,10 +24,6 @@ use Rattle.division.proofs.reciprocal.refined.Tie as tie
 made : Number
 made = Finite false (pos 0) 0xFFFFFFFF00000000
 
-made-working : IsResult (given made)
-unfolding IsResult made isWorking isFit isSignificand isWorkingExponent isBetween
-made-working = refl
-
 made-is : Equal (value made) twoLess
 unfolding made Equal value signed difference
 made-is = refl
@@ -56,8 +52,8 @@ refined-line task (given x) (given t) c r n0 has e f =
     (product-equal (value x) y (value x) (complement (value t)) x0 y0 x0 (complement-fraction (value t) t0) refl (has .2))
 
 combined-requires : tie.Need-combined-requires
-unfolding outcome made precisionOf
-combined-requires c κs = (made-working, c .pre .1, (lit≤ tt, lit≤ tt))
+unfolding outcome precisionOf IsResult isWorking isFit isSignificand isWorkingExponent isBetween
+combined-requires c κs = (refl, c .pre .1, (lit≤ tt, lit≤ tt))
 
 combined-requires-2 : tie.Need-combined-requires-2
 unfolding precisionOf

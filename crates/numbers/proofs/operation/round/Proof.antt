@@ -36,12 +36,8 @@ is-working-requires c κs = search needs
 precise : (c : tie.Else1) → isPrecision (precisionOf (c .before .before .args .task)) ≡ true
 precise c = sym (c .before .is-precise .ensures) ∙ not-false _ (c .if1 .left)
 
-returns-2 : tie.Need-returns-2
-unfolding outcome
-returns-2 c = round-unfit _ _ (precise (c .before .before)) (sym (c .before .is-working .ensures) ∙ not-true _ (c .if2 .taken))
-
-fit : (c : tie.Else2) → isWorking (c .before .before .before .before .args .x) ≡ true
-fit c = sym (c .before .is-working .ensures) ∙ not-false _ (c .if2 .left)
+fit : (c : tie.Then2) → isWorking (c .before .before .before .before .args .x) ≡ true
+fit c = sym (c .before .is-working .ensures) ∙ c .if2 .taken
 
 operand-of-requires : tie.Need-operand-of-requires
 operand-of-requires c κs = fit c
@@ -49,11 +45,15 @@ operand-of-requires c κs = fit c
 rounded-operand-requires : tie.Need-rounded-operand-requires
 rounded-operand-requires c κs = let n = precision-range _ (precise (c .before .before .before)) in (c .operand-of .ensures .1, n .0, n .1)
 
-returns-3 : tie.Need-returns-3
-returns-3 c =
+returns-2 : tie.Need-returns-2
+returns-2 c =
     let f = c .before .before in
     let exact = precise (f .before .before) in
     same _ _ _ _ (precision-range _ exact .0) (c .before .operand-of .ensures .0) (c .rounded-operand .ensures) ∙ round-unrefused _ _ exact (fit f)
+
+returns-3 : tie.Need-returns-3
+unfolding outcome
+returns-3 c = round-unfit _ _ (precise (c .before .before)) (sym (c .before .is-working .ensures) ∙ c .if2 .left)
 
 pub round-spec : {M : Type 1} → statement M
 round-spec =
@@ -62,7 +62,7 @@ round-spec =
     is-precise-requires
     returns
     is-working-requires
-    returns-2
     operand-of-requires
     rounded-operand-requires
+    returns-2
     returns-3)

@@ -58,15 +58,15 @@ fn equal_code(x: Number, format: Format) -> Packing
     let place = place_of(exponent, format);
     let part = cut(significand, place.below + (64 - format.precision));
     let kept = part.value;
-    let lost = part.rest;
-    if lost {
-        return Packing::Refused(Writing::NoEqualCode);
+    let exact = !part.rest;
+    if exact {
+        return Packing::Code(Code {
+            negative,
+            field: place.field,
+            significand: kept,
+        });
     }
-    Packing::Code(Code {
-        negative,
-        field: place.field,
-        significand: kept,
-    })
+    Packing::Refused(Writing::NoEqualCode)
 }
 
 // The field of an exponent, and how far the exponent lies below the lowest one.

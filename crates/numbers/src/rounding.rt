@@ -120,15 +120,15 @@ fn claim_top(negative: bool, exponent: u32, zeros: u32, top: Words, claim: Claim
 {
     let shift = 64 - claim.precision;
     let cell = shift_right(top, shift);
-    let inside = is_inside(exponent, zeros);
-    let inexact = has_fraction(cell.low, cell.rest);
-    if !inside {
+    let outside = !is_inside(exponent, zeros);
+    let exact = !has_fraction(cell.low, cell.rest);
+    if outside {
         return Answer::ExponentOutside;
     }
-    if inexact {
-        return Answer::TooManyBits;
+    if exact {
+        return checked(negative, exponent, zeros, cell.high << shift);
     }
-    checked(negative, exponent, zeros, cell.high << shift)
+    Answer::TooManyBits
 }
 
 // A two-word magnitude rounded once, or claimed exact, by its task.

@@ -9,6 +9,7 @@ use lib.Dec.{T, leb, ltb, eqb, lit≤}
 use lib.Ieee.{minus}
 use lib.IntN.{pos}
 use lib.Pow.{pow-add, pow-pos}
+use Rattle.little_endian.proofs.Laws.Bytes.{byte-power}
 use Rattle.numbers.specs.Answer.{given, refused}
 use Rattle.codes.specs.Codes.{doubleExtended, binary64, exponentBits, allOnes, split, join, isCanonical, judgedCode}
 use Rattle.codes.specs.Layout.{IsFormat, IsCode}
@@ -16,7 +17,6 @@ use Rattle.codes.specs.declared.code.Code.{Code}
 use Rattle.codes.specs.declared.code.Format.{Format}
 use Rattle.numbers.specs.declared.number.Number.{Number}
 use Rattle.codes.proofs.Laws.Leading.{leading-room, leading-back, upper-below}
-use Rattle.numbers.proofs.Laws.Powers.{byte-power}
 
 -- the constants of both formats are as those of a format are: tests that compute, and equations
 formed-by : (f : Format) → T (leb 1 (f .precision)) → T (leb (f .precision) 64) → T (leb (f .stored) (f .precision)) → T (leb (f .precision) (f .stored + 1)) → T (leb 1 (f .bias)) → T (leb (f .bias) 32767)

@@ -7,9 +7,19 @@ use native.Mathlib.Numerals.{add-one}
 use native.Mathlib.Omega.{arith}
 use lib.Arith.{digits-div}
 use lib.Dec.{lit<}
+use lib.Pow.{pow-add}
 use lib.ListN.{length, getD, take, drop, length-drop, take-append-drop, drop-of-length-le}
 use lib.Seq.{length-take-le, take-all, take-at, drop-at, drop-cons}
 use Rattle.little_endian.specs.Bytes.{littleEndian, bytesOf, IsBytes}
+
+-- 256^n is 2^(8 × n)
+pub byte-power : (n : ℕ) → 256 ^ n ≡ 2 ^ (8 * n)
+byte-power zero = refl
+byte-power (suc n) =
+    pow-succ' 256 n
+    ∙ ap (λ (m : ℕ). 256 * m) (byte-power n)
+    ∙ sym (pow-add 2 8 (8 * n))
+    ∙ ap (λ (m : ℕ). 2 ^ m) (let e : 8 + 8 * n ≡ 8 * suc n = omega arith in e)
 
 -- the first byte and those after it
 bytes-tail : (b : ℕ) (bytes : List ℕ) → IsBytes (b ∷ bytes) → (b < 256) × IsBytes bytes

@@ -4,7 +4,7 @@ use mathlib.Core.Path.{_≡_, refl, sym, ap, ap₂, _∙_}
 use mathlib.Core.Bool.{true, false, _&&_, and-false, and-eq-true-iff}
 use Prim.Native.Nat.{ℕ, zero, suc, _+_, _-_, _≤_, _<_, zero-le}
 use native.Mathlib.Decide.{decLe}
-use native.Mathlib.Nat.{add-zero, le-antisymm, lt-of-not-le}
+use native.Mathlib.Nat.{add-zero, lt-of-not-le}
 use native.Mathlib.Omega.{arith}
 use lib.Dec.{leb}
 use lib.Ieee.{minus}
@@ -94,14 +94,6 @@ minus-order i o j p = go (decLe o i) (decLe p j)
         let h : i < o = lt-of-not-le m in
         let k : j < p = lt-of-not-le n in
         rw (minus-up i o h, minus-up j p k) (leb-same (p - suc j) (o - suc i) (i + p) (j + o) (λ (l : p - suc j ≤ o - suc i). omega arith) (λ (l : i + p ≤ j + o). omega arith))
-
--- equal differences
-pub minus-only : (i o j p : ℕ) → minus i o ≡ minus j p → i + p ≡ j + o
-minus-only i o j p h =
-    let one = minus-order i o i o ∙ le-leb (i + o) (i + o) (omega arith) in
-    le-antisymm
-    (leb-true (i + p) (j + o) (sym (minus-order i o j p) ∙ ap (λ (e : ℤ). leZ (minus i o) e) (sym h) ∙ one))
-    (leb-true (j + o) (i + p) (sym (minus-order j p i o) ∙ ap (λ (e : ℤ). leZ e (minus i o)) (sym h) ∙ one))
 
 -- two natural numbers as a difference, and a natural number subtracted
 pub pos-minus : (a b : ℕ) → pos a -ℤ pos b ≡ minus a b

@@ -27,15 +27,6 @@ word-parts n n0 n1 = omega (arith, power-parts n 64 n0 n1)
 pub word-power : (n : ℕ) → n ≤ 64 → 2 ^ n * 2 ^ (64 - n) ≡ 2 ^ 64
 word-power n h = sym (pow-add 2 n (64 - n)) ∙ ap (λ (m : ℕ). 2 ^ m) (let l : n + (64 - n) ≡ 64 = omega arith in l)
 
--- 256^n is 2^(8 × n)
-pub byte-power : (n : ℕ) → 256 ^ n ≡ 2 ^ (8 * n)
-byte-power zero = refl
-byte-power (suc n) =
-    pow-succ' 256 n
-    ∙ ap (λ (m : ℕ). 256 * m) (byte-power n)
-    ∙ sym (pow-add 2 8 (8 * n))
-    ∙ ap (λ (m : ℕ). 2 ^ m) (let e : 8 + 8 * n ≡ 8 * suc n = omega arith in e)
-
 -- a number is below its own power
 pub below-power : (n : ℕ) → n < 2 ^ n
 below-power zero = lit< tt

@@ -13,7 +13,7 @@ use mir.Facts.{toZ-ofZ}
 use mir.Syntax.{w32}
 use mir.Val.{SFits, toZ, ofZ}
 use borrow.Author.Needs.{needs}
-use borrow.Author.Tests.{ltb-true, ltb-false, le-leb, lt-leb, le-ltb, lt-ltb, eq-eqb, ne-eqb}
+use borrow.Author.Tests.{ltb-true, ltb-false, le-leb, lt-leb, le-ltb, lt-ltb, eq-eqb, ne-eqb, not-true, not-false}
 use Rattle.codes.specs.Codes.{fieldOf, belowNormal, encoded, decoded, equalCode}
 use Rattle.numbers.specs.Fraction.{value, isEqual}
 use Rattle.codes.specs.Layout.{IsFormat, packingOf}
@@ -107,42 +107,46 @@ returns-2 c =
     let fits : SFits w32 (v .0 .1 .0) = search needs in
     too-high _ (start .pre .0) _ _ _ _ (start .pre .1) (v .1) fits (c .if1 .taken)
 
+-- past the first test: the exponent fits its type
+exponent-fits : (c : tie.Else1) → SFits w32 (c .before .before .before .before .x .given .0 .1 .0)
+exponent-fits c = search needs
+
 place-of-requires : tie.Need-place-of-requires
 place-of-requires c κs =
     let start = c .before .before .before .before .before .before in
-    let v = c .before .before .before .before .x .given in
-    let fits : SFits w32 (v .0 .1 .0) = search needs in
-    (start .pre .0, exponent-working _ (start .pre .0) _ _ _ _ (start .pre .1) (v .1) fits)
+    (start .pre .0, exponent-working _ (start .pre .0) _ _ _ _ (start .pre .1) (c .before .before .before .before .x .given .1) (exponent-fits c))
 
 sub-cut : tie.Need-sub-cut
 sub-cut c = search needs
 
 add-cut : tie.Need-add-cut
 add-cut c =
-    let start = c .before .before .before .before .before .before .before .before .before in
-    let v = c .before .before .before .before .before .before .before .x .given in
-    let fits : SFits w32 (v .0 .1 .0) = search needs in
-    let working = exponent-working _ (start .pre .0) _ _ _ _ (start .pre .1) (v .1) fits in
-    record { fits = omega (arith, c .before .before .place-of .ensures .1, below-most _ (start .pre .0) _ working) }
+    let place = c .before .before in
+    let past = place .before in
+    let start = past .before .before .before .before .before .before in
+    let working = exponent-working _ (start .pre .0) _ _ _ _ (start .pre .1) (past .before .before .before .before .x .given .1) (exponent-fits past) in
+    record { fits = omega (arith, place .place-of .ensures .1, below-most _ (start .pre .0) _ working) }
 
 cut-requires : tie.Need-cut-requires
 cut-requires c κs = search needs
 
 returns-3 : tie.Need-returns-3
 returns-3 c =
-    let start = c .before .before .before .before .before .before .before .before .before .before .before in
-    let v = c .before .before .before .before .before .before .before .before .before .x .given in
-    let fits : SFits w32 (v .0 .1 .0) = search needs in
-    lost _ (start .pre .0) _ _ _ _ (start .pre .1) (v .1) fits (c .before .before .before .before .before .if1 .left)
-    _ (c .before .before .before .before .place-of .ensures .1) _ (c .before .cut .ensures .1) (c .if2 .taken)
+    let called = c .before .before in
+    let place = called .before .before .before in
+    let past = place .before in
+    let start = past .before .before .before .before .before .before in
+    held _ (start .pre .0) _ _ _ _ (start .pre .1) (past .before .before .before .before .x .given .1) (exponent-fits past) (past .if1 .left)
+    _ (place .place-of .ensures .1) _ (called .cut .ensures .1) _ _ (not-true _ (c .if2 .taken)) (place .place-of .ensures .0) (called .cut .ensures .0)
 
 returns-4 : tie.Need-returns-4
 returns-4 c =
-    let start = c .before .before .before .before .before .before .before .before .before .before .before in
-    let v = c .before .before .before .before .before .before .before .before .before .x .given in
-    let fits : SFits w32 (v .0 .1 .0) = search needs in
-    held _ (start .pre .0) _ _ _ _ (start .pre .1) (v .1) fits (c .before .before .before .before .before .if1 .left)
-    _ (c .before .before .before .before .place-of .ensures .1) _ (c .before .cut .ensures .1) _ _ (c .if2 .left) (c .before .before .before .before .place-of .ensures .0) (c .before .cut .ensures .0)
+    let called = c .before .before in
+    let place = called .before .before .before in
+    let past = place .before in
+    let start = past .before .before .before .before .before .before in
+    lost _ (start .pre .0) _ _ _ _ (start .pre .1) (past .before .before .before .before .x .given .1) (exponent-fits past) (past .if1 .left)
+    _ (place .place-of .ensures .1) _ (called .cut .ensures .1) (not-false _ (c .if2 .left))
 
 pub equal-code-spec : {M : Type 1} → statement M
 equal-code-spec = tie.close (tie.spec enum-known-x enum-told returns returns-2 place-of-requires sub-cut add-cut cut-requires returns-3 returns-4)

@@ -16,9 +16,10 @@ use Rattle.numbers.specs.Rounding.{claim}
 use Rattle.numbers.specs.declared.answer.Answer.the-variants.{Given}
 use Rattle.numbers.specs.declared.number.Number.{Number}
 use Rattle.numbers.specs.declared.number.Number.the-variants.{Zero, Finite}
-use Rattle.numbers.proofs.Laws.Bias.{minus-minus, minus-small}
+use Rattle.numbers.proofs.Laws.Bias.{minus-minus}
 use Rattle.numbers.proofs.Laws.Exponent.{minus-same}
 use Rattle.numbers.proofs.Laws.Same.{same-number}
+use Rattle.numbers.proofs.Laws.Signed.{minus-fits}
 use Rattle.division.specs.Quotient.{isZero}
 use Rattle.division.specs.Run.{IsResult}
 use Rattle.division.specs.Steps.{entryOf, indexOf, seed}
@@ -51,7 +52,7 @@ module _ (d : Number) (s : Bool) (e : ℤ) (S : ℕ) (is : d ≡ Finite s e S) (
       ∙ minus-same (0 + 65535) (1 + b) (131069 - b) 65535 (omega (arith, range .highest))
 
   exponent-fits : SFits w32 (negsuc 0 -ℤ toZ w32 (ofZ w32 e))
-  exponent-fits = rw exponent-is (record { sfits = minus-small (131069 - b) 65535 (2 ^ 31) (omega arith) (omega (arith, range .highest)) })
+  exponent-fits = rw exponent-is (minus-fits (131069 - b) 65535 (omega arith) (omega (arith, range .highest)))
 
   module _ (T : ℕ) (entry : T ≡ entryOf (S / 2 ^ 56 % 128)) where
     -- the number that the code makes

@@ -2,6 +2,7 @@
 use mathlib.Core.Path.{_≡_, sym, _∙_}
 use mathlib.Core.Bool.{true, false, not, cond}
 use Prim.Native.Nat.{ℕ}
+use native.Mathlib.Omega.{arith}
 use borrow.Author.Needs.{needs}
 use borrow.Author.Tests.{not-true, not-false}
 use Rattle.numbers.specs.Answer.{Outcome, refused}
@@ -39,7 +40,7 @@ is-step-requires c κs = search needs
 -- what is asked for rows 2 to 6, and known past each test
 returns : tie.Need-returns
 unfolding stepOutcome stepOf
-returns c = unknown-mode _ _ _ _ _ (c .if1 .taken)
+returns c = unknown-mode _ _ _ _ _ (omega (arith, c .if1 .taken))
 
 returns-2 : tie.Need-returns-2
 unfolding stepOutcome stepOf

@@ -1,6 +1,6 @@
 -- `numbers::number::unbiased` meets its contract: a biased exponent less 65,535 is `minus`.
 use mathlib.Core.Path.{_≡_, ap, _∙_}
-use Prim.Native.Nat.{ℕ, _^_, _≤_}
+use Prim.Native.Nat.{ℕ, _≤_}
 use native.Mathlib.Omega.{arith}
 use borrow.Author.Needs.{needs}
 use lib.Ieee.{minus}
@@ -8,7 +8,8 @@ use lib.IntN.{ℤ, pos, _-ℤ_}
 use mir.Facts.{toZ-ofZ, toZ-pos}
 use mir.Syntax.{w32}
 use mir.Val.{SFits, toZ}
-use Rattle.numbers.proofs.Laws.Bias.{pos-minus, minus-small}
+use Rattle.numbers.proofs.Laws.Bias.{pos-minus}
+use Rattle.numbers.proofs.Laws.Signed.{minus-fits}
 use Rattle.numbers.proofs.number.unbiased.Statement.{statement}
 use Rattle.numbers.proofs.number.unbiased.Tie as tie
 
@@ -23,7 +24,7 @@ module _ (b : ℕ) (h : b ≤ 131071) where
   difference-is = ap (λ (z : ℤ). z -ℤ pos 65535) (toZ-pos w32 {n = b} (omega arith)) ∙ pos-minus b 65535
 
   difference-fits : SFits w32 (toZ w32 b -ℤ pos 65535)
-  difference-fits = rw difference-is (record { sfits = minus-small b 65535 (2 ^ 31) (omega arith) (omega arith) })
+  difference-fits = rw difference-is (minus-fits b 65535 (omega arith) (omega arith))
 
 sub-result : tie.Need-sub-result
 sub-result c = difference-fits (c .args .b) (c .pre)

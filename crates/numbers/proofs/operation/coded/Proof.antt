@@ -1,5 +1,6 @@
 -- `numbers::operation::coded` meets its contract: row 1, and then the operation by the task of the code.
 use mathlib.Core.Path.{_∙_}
+use native.Mathlib.Omega.{arith}
 use borrow.Author.Needs.{needs}
 use Rattle.numbers.specs.Answer.{outcome, codedOf}
 use Rattle.numbers.proofs.Laws.Refusals.{unknown-mode, known-mode}
@@ -8,7 +9,7 @@ use Rattle.numbers.proofs.operation.coded.Tie as tie
 
 returns : tie.Need-returns
 unfolding outcome codedOf
-returns c = unknown-mode _ _ _ (c .if1 .taken)
+returns c = unknown-mode _ _ _ (omega (arith, c .if1 .taken))
 
 task-of-requires : tie.Need-task-of-requires
 task-of-requires c κs = search needs

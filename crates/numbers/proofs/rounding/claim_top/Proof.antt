@@ -51,13 +51,6 @@ has-fraction-requires c κs = search needs
 returns : tie.Need-returns
 returns c = outside _ _ _ _ _ (c .before .before .is-inside .ensures) (not-true _ (c .if1 .taken))
 
-returns-2 : tie.Need-returns-2
-returns-2 c =
-    let f = c .before .before in
-    let cell = f .before .before in
-    too-many _ _ _ _ _ _ (cell .shift-right .result .rest) _ _ (cell .before .before .pre .4) (omega arith) (cell .shift-right .ensures .0) (cell .shift-right .ensures .1) (f .before .is-inside .ensures) (f .has-fraction .ensures)
-    (not-false _ (c .before .if1 .left)) (c .if2 .taken)
-
 cast-checked : tie.Need-cast-checked
 cast-checked c = search needs
 
@@ -67,14 +60,21 @@ shl-checked c = search needs
 checked-requires : tie.Need-checked-requires
 checked-requires c κs = search needs
 
-returns-3 : tie.Need-returns-3
-returns-3 c =
+returns-2 : tie.Need-returns-2
+returns-2 c =
     let e = c .before .before in
     let f = e .before .before in
     let cell = f .before .before in
     c .checked .ensures
     ∙ none _ _ _ _ _ _ (cell .shift-right .result .rest) _ _ (cell .before .before .pre .4) (c .before .struct-known2 .given .1 .0 .fits) (cell .shift-right .ensures .0) (cell .shift-right .ensures .1) (f .before .is-inside .ensures) (f .has-fraction .ensures)
-    (cell .before .before .pre .2) (not-false _ (e .before .if1 .left)) (e .if2 .left)
+    (cell .before .before .pre .2) (not-false _ (e .before .if1 .left)) (not-true _ (e .if2 .taken))
+
+returns-3 : tie.Need-returns-3
+returns-3 c =
+    let f = c .before .before in
+    let cell = f .before .before in
+    too-many _ _ _ _ _ _ (cell .shift-right .result .rest) _ _ (cell .before .before .pre .4) (omega arith) (cell .shift-right .ensures .0) (cell .shift-right .ensures .1) (f .before .is-inside .ensures) (f .has-fraction .ensures)
+    (not-false _ (c .before .if1 .left)) (not-false _ (c .if2 .left))
 
 pub claim-top-spec : {M : Type 1} → statement M
 claim-top-spec =
@@ -85,8 +85,8 @@ claim-top-spec =
     is-inside-requires
     has-fraction-requires
     returns
-    returns-2
     cast-checked
     shl-checked
     checked-requires
+    returns-2
     returns-3)

@@ -96,7 +96,7 @@ enum-told-3 : tie.Need-enum-told-3
 enum-told-3 c = search needs
 
 returns-2 : tie.Need-returns-2
-returns-2 c = near-below _ (c .before .enum-told3 .given .1) _ _ _ (c .before .before .before .before .before .args .rest) (c .if2 .taken)
+returns-2 c = near-below _ (c .before .enum-told3 .given .1) _ _ _ (c .before .before .before .before .before .args .rest) (omega (arith, c .if2 .taken))
 
 returns-3 : tie.Need-returns-3
 returns-3 c = near-above _ (c .before .before .enum-told3 .given .1) _ _ _ (c .before .before .before .before .before .before .args .rest) (c .if3 .taken)

@@ -2,9 +2,9 @@
 -- A format's constants are the struct `Format` of src/code.rt, and a code taken apart is the struct `Code`. `minus a b` (lib.Ieee) is a − b as a
 -- whole number.
 use mathlib.Core.Bool.{Bool, false, not, _&&_, Bool·beq, cond}
-use mathlib.Core.List.{List, [], _∷_}
+use mathlib.Core.List.{List}
 use mathlib.Core.Option.{Option, none, some}
-use Prim.Native.Nat.{ℕ, zero, suc, _+_, _-_, _*_, _/_, _%_, _^_}
+use Prim.Native.Nat.{ℕ, _+_, _-_, _*_, _/_, _%_, _^_}
 use lib.Dec.{leb, ltb, eqb}
 use lib.Ieee.{minus}
 use lib.IntN.{ℤ, pos, negℤ, natAbs, _+ℤ_, _-ℤ_}

@@ -9,12 +9,13 @@ use lib.Ieee.{minus}
 use lib.IntN.{ℤ}
 use Rattle.numbers.specs.Answer.{Outcome, given, refused, rounded, unlessUnknown, unlessRefused}
 use Rattle.numbers.specs.Fraction.{value, quotient}
-use Rattle.numbers.specs.Number.{isAdmissible}
-use Rattle.numbers.specs.Rounding.{byMode, taskOf, isPrecision, precisionOf}
+use Rattle.numbers.specs.Number.{isWorking, isAdmissible}
+use Rattle.numbers.specs.Rounding.{round, byMode, taskOf, isPrecision, precisionOf}
 use Rattle.numbers.specs.declared.number.Number.{Number}
 use Rattle.numbers.specs.declared.number.Number.the-variants.{Zero, Finite}
 use Rattle.numbers.specs.declared.task.Mode.{Mode}
 use Rattle.numbers.specs.declared.task.Mode.the-variants.{Trunc, Away, Near, Sticky, Up, Down}
+use Rattle.numbers.proofs.Laws.Fits.{given-round, working-checked}
 use Rattle.numbers.proofs.Laws.Refusals.{precision-range, range-precision}
 use Rattle.division.specs.Quotient.{isZero, quotientOutcome, unlessIndivisible, quotientOf}
 use Rattle.division.specs.Steps.{afterStep}
@@ -39,6 +40,7 @@ unfolding precisionOf
 divided s b D range p mode n fit n0 n1 =
     let d = Finite s (minus b 65535) D in
     let first = seed-step s b D range in
+    let final = step-given s b D range p fit mode n n0 n1 32 (lit≤ tt) (lit≤ tt) in
     record {
       seed-given = (first .number, line-1 p d (byMode mode n) ∙ first .step, equal-scaled (first .amount) (seed-scaled s b D));
       seed-near = seed-rule s (minus b 65535) D (range .top) (range .word);
@@ -46,7 +48,7 @@ divided s b D range p mode n fit n0 n1 =
       every-step-given = λ (k : ℕ) (k0 : 1 ≤ k) (k1 : k ≤ 32).
           let x = step-given s b D range p fit mode n n0 n1 k k0 k1 in
           (x .0, x .1, as-given (afterStep p d (byMode mode n) k) (x .0) (x .1) (step-result (byMode mode n) (n0, n1) p d k));
-      rounded-once = last-step s b D range p fit mode n n0 n1;
+      rounded-once = final .1 ∙ ap given (given-round mode n (quotient (value p) (value d)) (final .0) (sym (last-step s b D range p fit mode n n0 n1) ∙ final .1));
     }
 
 -- no step fails its claim, and step 32 is the exact quotient rounded once
@@ -95,8 +97,14 @@ module _ (p d : Number) (code n : ℕ) where
       let m = mode-of code n (is .mode) in
       (m .0, m .1, joined p d (m .0) n (is .dividend) (is .divisor) (is .nonzero) (is .precise .0) (is .precise .1))
 
+  -- what a task gives of the quotient is what step 32 gives: the number is working, so no row refuses it
   coded-once : IsTaken p d code n → afterStep p d (taskOf code n) 32 ≡ rounded (taskOf code n) (quotient (value p) (value d))
-  coded-once is = let m = coded is in rw (m .1) (m .2 .rounded-once)
+  unfolding rounded
+  coded-once is =
+      let m = coded is in
+      let x = m .2 .every-step-given 32 (lit≤ tt) (lit≤ tt) in
+      let same : x .0 ≡ round (m .0) n (quotient (value p) (value d)) = let both = sym (x .1) ∙ m .2 .rounded-once in cc in
+      rw (m .1) (m .2 .rounded-once ∙ sym (working-checked (round (m .0) n (quotient (value p) (value d))) (subst (λ (z : Number). isWorking z ≡ true) same (x .2))))
 
   coded-answer : (last k : ℕ) → IsTaken p d code n → 1 ≤ k → k ≤ 32 → IsAnswer last (afterStep p d (taskOf code n) k)
   unfolding IsAnswer
@@ -180,10 +188,11 @@ module _ (p d : Number) (code n : ℕ) (is : IsTaken p d code n) where
         let entry = step-taken k k0 k1 ∙ x .1 in
         (x .0, x .1, entry, λ (r : Step) (e : stepOutcome r ≡ stepOf p d code n k). given-step r (x .0) (e ∙ entry));
     quotient-given =
-        let x = table-given 32 (lit≤ tt) (lit≤ tt) in
-        let once = sym (coded-once p d code n is) ∙ x .1 in
-        let entry = quotient-taken ∙ once in
-        (x .0, once, entry, λ (r : Quotient) (e : quotientOutcome r ≡ quotientOf p d code n). given-quotient r (x .0) (e ∙ entry));
+        let m = coded p d code n is in
+        let x = round (m .0) n (quotient (value p) (value d)) in
+        let last : afterStep p d (taskOf code n) 32 ≡ given x = rw (m .1) (m .2 .rounded-once) in
+        let entry = quotient-taken ∙ sym (coded-once p d code n is) ∙ last in
+        (m .0, m .1, entry, λ (r : Quotient) (e : quotientOutcome r ≡ quotientOf p d code n). given-quotient r x (e ∙ entry));
   }
 
 -- The theorem, whole: for every admissible dividend, every admissible divisor but zero, the six modes and every precision from 1 to 64 the seed is near,

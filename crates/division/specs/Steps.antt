@@ -181,13 +181,12 @@ workedOut p d (line ∷ rest) results = workedOut p d rest (results ++ (resultOf
 unfoldable pub afterStep : Number → Number → Task → ℕ → Outcome
 afterStep p d task k = resultAt (workedOut p d (lines task) []) k
 
--- "A step fails its claim when, worked out by this list on the same operands, its exact value has more bits than its exactness claim allows, or its
--- result (exact claim: its value) has no working exponent. Zero never fails."
+-- When the exact value x fails its task: it "has more bits than its exactness claim allows, or its result (exact claim: its value) has no working
+-- exponent. Zero never fails."
 unfoldable pub isOutside : Number → Bool
 isOutside Zero = false
 isOutside (Finite negative e S) = not (isWorkingExponent e)
 
--- does the exact value x fail the task?
 unfoldable pub failsTask : Task → Fraction → Bool
 failsTask (Round rounding) x = isOutside (round (rounding .mode) (rounding .precision) x)
 failsTask (Exact claim) x =
@@ -195,7 +194,7 @@ failsTask (Exact claim) x =
     let b = x .denominator in
     not (eqb a 0) && (not (hasAtMostBits (claim .precision) a b) || not (isWorkingExponent (exponentOf a b)))
 
--- does a line fail? One that takes a result that is refused has no exact value; it is the earlier step that fails.
+-- Whether a line fails. One that takes a refused result has no exact value: it is an earlier step that fails.
 unfoldable pub failsOf : Task → (Number → Fraction) → Outcome → Bool
 failsOf task exact (given x) = failsTask task (exact x)
 failsOf task exact (refused k) = false
@@ -209,7 +208,7 @@ unfoldable pub fails : (Term → Outcome) → Expression → Task → Bool
 fails outcome (of exact a) task = failsOf task exact (outcome a)
 fails outcome (ofBoth exact a b) task = failsOfBoth task exact (outcome a) (outcome b)
 
--- step k fails its claim
+-- "A step fails its claim when, worked out by this list on the same operands, its exact value" fails: step k
 unfoldable pub Fails : Number → Number → Task → ℕ → Type 0
 Fails p d task zero = ⊥
 Fails p d task (suc k) =

@@ -5,8 +5,8 @@ use Prim.Native.Nat.{ℕ, _^_, _≤_}
 use lib.IntN.{pos}
 use Rattle.numbers.specs.Number.{isWorking, isAdmissible}
 use Rattle.numbers.specs.Fraction.{Fraction, Equal, Below, value, sum, difference, product, quotient, magnitude}
-use Rattle.numbers.specs.Rounding.{byMode, taskOf}
-use Rattle.numbers.specs.Answer.{Outcome, given, refused, rounded}
+use Rattle.numbers.specs.Rounding.{round, byMode, taskOf}
+use Rattle.numbers.specs.Answer.{Outcome, given, refused}
 use Rattle.numbers.specs.declared.number.Number.{Number}
 use Rattle.numbers.specs.declared.task.Mode.{Mode}
 use Rattle.division.specs.Quotient.{isZero, quotientOutcome, quotientOf}
@@ -32,7 +32,7 @@ pub record IsDivided (p d : Number) (mode : Mode) (n : ℕ) : Type 0 where
   pub no-step-fails : (k : ℕ) → Fails p d (byMode mode n) k → ⊥
   pub every-step-given : (k : ℕ) → 1 ≤ k → k ≤ 32 → (x : Number) × (afterStep p d (byMode mode n) k ≡ given x) × (isWorking x ≡ true)
   -- step 32 is the exact quotient rounded once
-  pub rounded-once : afterStep p d (byMode mode n) 32 ≡ rounded (byMode mode n) (quotient (value p) (value d))
+  pub rounded-once : afterStep p d (byMode mode n) 32 ≡ given (round mode n (quotient (value p) (value d)))
 
 -- No row from 1 to 5 applies: "divide takes admissible ones and code 0 to 5", the precision is from 1 to 64, and the divisor is not zero.
 pub record IsTaken (p d : Number) (code n : ℕ) : Type 0 where
@@ -47,9 +47,9 @@ pub record IsAnswered (p d : Number) (code n : ℕ) : Type 0 where
   -- the value of the table after every step
   pub step-given : (k : ℕ) → 1 ≤ k → k ≤ 32
       → (x : Number) × (afterStep p d (taskOf code n) k ≡ given x) × (stepOf p d code n k ≡ given x) × ((r : Step) → stepOutcome r ≡ stepOf p d code n k → r ≡ step.Given x)
-  -- the exact quotient rounded once
-  pub quotient-given : (x : Number) × (rounded (taskOf code n) (quotient (value p) (value d)) ≡ given x) × (quotientOf p d code n ≡ given x)
-      × ((r : Quotient) → quotientOutcome r ≡ quotientOf p d code n → r ≡ answer.Given x)
+  -- the exact quotient rounded once, by the mode that the code names
+  pub quotient-given : (mode : Mode) × (taskOf code n ≡ byMode mode n) × (quotientOf p d code n ≡ given (round mode n (quotient (value p) (value d))))
+      × ((r : Quotient) → quotientOutcome r ≡ quotientOf p d code n → r ≡ answer.Given (round mode n (quotient (value p) (value d))))
 
 -- a working number, or one of the refusals up to `last`: "7 and 8 never leave a division"
 unfoldable pub IsAnswer : ℕ → Outcome → Type 0

@@ -52,18 +52,18 @@ unfoldable pub rounded : Task → Fraction → Outcome
 rounded (Round rounding) x = checked (round (rounding .mode) (rounding .precision) x)
 rounded (Exact claim) x = claimed (claim .precision) x
 
--- Rows 2 to 4, for operands that are judged by `fit`: precision, first operand, second operand.
 -- "The lowest number that applies is returned, and none where no row applies."
+-- Row 1, for codes up to `lastCode`: "mode code above 6; for divide and steps above 5"
+unfoldable pub unlessUnknown : ℕ → ℕ → Outcome → Outcome
+unlessUnknown lastCode code answer = cond (ltb lastCode code) (refused 1) answer
+
+-- Rows 2 to 4, for operands that are judged by `fit`: precision, first operand, second operand
 unfoldable pub unlessRefused : (Number → Bool) → Number → Number → ℕ → Outcome → Outcome
 unlessRefused fit a b n answer =
     cond (not (isPrecision n)) (refused 2)
     (cond (not (fit a)) (refused 3)
     (cond (not (fit b)) (refused 4)
     answer))
-
--- Row 1, for codes up to `lastCode`: "mode code above 6; for divide and steps above 5"
-unfoldable pub unlessUnknown : ℕ → ℕ → Outcome → Outcome
-unlessUnknown lastCode code answer = cond (ltb lastCode code) (refused 1) answer
 
 -- the exact operation that a case of the enum `Operation` names
 abbrev pub exactOf : Operation → Fraction → Fraction → Fraction
@@ -75,7 +75,7 @@ exactOf Product = product
 unfoldable pub operationOf : (Fraction → Fraction → Fraction) → Number → Number → Task → Outcome
 operationOf exact a b task = unlessRefused isWorking a b (precisionOf task) (rounded task (exact (value a) (value b)))
 
--- What a number by itself after a task is: rows 2 and 3, of the "only" operand.
+-- What rounding a number by itself answers. Row 3: "only or first operand unfit"
 unfoldable pub roundingOf : Number → Task → Outcome
 roundingOf x task =
     cond (not (isPrecision (precisionOf task))) (refused 2)

@@ -1,12 +1,12 @@
 -- A number normalized: the fit number of the same value, if there is one. And a number cut to a code's bits: it equals the code where no set bit
 -- was cut off.
-use mathlib.Core.Path.{_≡_, refl, sym, ap, _∙_}
+use mathlib.Core.Path.{_≡_, sym, ap, _∙_}
 use mathlib.Core.Bool.{Bool, true, false, cond}
 use Prim.Native.Nat.{ℕ, _+_, _-_, _*_, _/_, _%_, _^_, _≤_, _<_}
 use native.Mathlib.Decide.{decLe}
 use native.Mathlib.Nat.{div-add-mod', eq-of-mul-eq-mul-right, lt-of-not-le, mul-pos}
 use native.Mathlib.Omega.{arith}
-use lib.Dec.{eqb, lit≤}
+use lib.Dec.{eqb}
 use lib.Ieee.{minus, up, down}
 use lib.Ieee.Digits.{minus-val}
 use lib.Ieee.Fits.{down-pos}
@@ -22,7 +22,6 @@ use Rattle.codes.specs.declared.code.Code.{Code}
 use Rattle.codes.specs.declared.code.Format.{Format}
 use Rattle.numbers.specs.declared.number.Number.{Number}
 use Rattle.numbers.specs.declared.number.Number.the-variants.{Zero, Finite}
-use Rattle.numbers.specs.declared.task.Mode.the-variants.{Trunc}
 use Rattle.numbers.proofs.Laws.Bias.{biased-working}
 use Rattle.numbers.proofs.Laws.Exponent.{minus-same}
 use Rattle.numbers.proofs.Laws.Fractions.{signed-equal, equal-test, equal-passes}

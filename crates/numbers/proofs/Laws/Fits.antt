@@ -1,6 +1,6 @@
 -- What a rounding gives is fit: its significand has the top bit set, and an outcome that is a number is a working number.
 use mathlib.Core.Path.{_≡_, refl, sym, ap}
-use mathlib.Core.Bool.{Bool, true, false, cond}
+use mathlib.Core.Bool.{Bool, true, false, cond, and-eq-true-iff}
 use Prim.Native.Nat.{ℕ, zero, suc, _+_, _-_, _*_, _/_, _%_, _^_, _≤_, _<_}
 use native.Mathlib.Decide.{ℕ-discrete}
 use native.Mathlib.Nat.{le-of-eq, le-trans, lt-of-lt-of-le, mul-pos, mul-le-mul-right, mul-lt-mul-of-pos-right, le-div-iff-mul-le, div-lt-iff-lt-mul}
@@ -13,7 +13,7 @@ use lib.Ieee.Fits.{up-pos}
 use lib.Pow.{pow-pos}
 use Rattle.numbers.specs.Number.{isSignificand, isFit, isWorkingExponent, isWorking}
 use Rattle.numbers.specs.Fraction.{Fraction, IsFraction}
-use Rattle.numbers.specs.Rounding.{exponentOf, scaledNumerator, scaledDenominator, goesUp, wholeOf, placed, roundedAt, isNegative, round, hasAtMostBits, precisionOf}
+use Rattle.numbers.specs.Rounding.{exponentOf, scaledNumerator, scaledDenominator, goesUp, wholeOf, placed, roundedAt, isNegative, round, hasAtMostBits, byMode, precisionOf}
 use Rattle.numbers.specs.Answer.{given, refused, checked, claimed, rounded, judged}
 use Rattle.numbers.specs.declared.number.Number.{Number}
 use Rattle.numbers.specs.declared.number.Number.the-variants.{Zero, Finite}
@@ -157,3 +157,21 @@ pub given-working : (task : Task) (x : Fraction) (y : Number) → IsFraction x �
 unfolding rounded precisionOf
 given-working (Round r) x y x0 n0 n1 h = checked-working (round (r .mode) (r .precision) x) y (round-fits (r .mode) (r .precision) x x0 n0 n1) h
 given-working (Exact c) x y x0 n0 n1 h = claimed-working (c .precision) x y x0 n0 n1 h
+
+-- what a mode gives is its rounding, and a working number passes row 7
+pub given-round : (mode : Mode) (n : ℕ) (x : Fraction) (y : Number) → rounded (byMode mode n) x ≡ given y → y ≡ round mode n x
+unfolding rounded checked
+given-round mode n x y h = go (round mode n x) h
+  where
+    inside : (z : Number) (working : Bool) → cond working (given z) (refused 7) ≡ given y → y ≡ z
+    inside z true h = cc
+    inside z false h = absurd (let o : _≡_ {A = ℕ} 0 1 = cc in omega arith)
+
+    go : (z : Number) → checked z ≡ given y → y ≡ z
+    go Zero h = cc
+    go (Finite s e S) h = inside (Finite s e S) (isWorkingExponent e) h
+
+pub working-checked : (z : Number) → isWorking z ≡ true → checked z ≡ given z
+unfolding checked isWorking isFit
+working-checked Zero h = refl
+working-checked (Finite s e S) h = rw (and-eq-true-iff (isWorkingExponent e) (isSignificand S) .0 h .0)

@@ -4,7 +4,7 @@ use mathlib.Core.Bool.{Bool, true, and-eq-true-iff}
 use Prim.Native.Nat.{ℕ, _+_, _-_, _*_, _%_, _^_, _≤_, _<_}
 use native.Mathlib.Nat.{le-trans, mod-eq-of-lt, pos-of-ne-zero}
 use native.Mathlib.Omega.{arith}
-use lib.Count.{leadingZeros, leading-le, leading-top}
+use lib.Count.{leadingZeros, leading-top}
 use lib.Ieee.{minus}
 use lib.IntN.{ℤ, pos, negsuc, negℤ, _-ℤ_}
 use lib.Signed.{leZ}

@@ -4,7 +4,7 @@ use mathlib.Core.Bool.{true}
 use Prim.Native.Nat.{_≤_}
 use borrow.Author.Needs.{needs}
 use borrow.Author.Tests.{not-true, not-false}
-use Rattle.numbers.specs.Answer.{Outcome, outcome, rounded, roundingOf}
+use Rattle.numbers.specs.Answer.{Outcome, outcome, rounded}
 use Rattle.numbers.specs.Fraction.{Equal, value}
 use Rattle.numbers.specs.Number.{isWorking}
 use Rattle.numbers.specs.Rounding.{isPrecision, precisionOf}

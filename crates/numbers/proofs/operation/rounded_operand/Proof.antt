@@ -1,10 +1,10 @@
 -- `numbers::operation::rounded_operand` meets its contract: the significand is the low word of a magnitude.
-use mathlib.Core.Path.{_≡_, ap, _∙_}
-use Prim.Native.Nat.{ℕ, _+_}
+use mathlib.Core.Path.{_≡_}
+use Prim.Native.Nat.{ℕ}
 use native.Mathlib.Omega.{arith}
 use borrow.Author.Needs.{needs}
 use Rattle.numbers.specs.Answer.{rounded}
-use Rattle.numbers.specs.Words.{wide, scaledValue, operandValue}
+use Rattle.numbers.specs.Words.{wide, operandValue}
 use Rattle.numbers.proofs.operation.rounded_operand.Statement.{statement}
 use Rattle.numbers.proofs.operation.rounded_operand.Tie as tie
 

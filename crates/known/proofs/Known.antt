@@ -1,17 +1,17 @@
 -- The known values of document 01, computed: P1 to P12, and with them others that the program runs as well. Each line has what the definitions give and
 -- what document 01 says.
 use mathlib.Core.Path.{_≡_, refl}
-use mathlib.Core.Bool.{true, false}
+use mathlib.Core.Bool.{false}
 use mathlib.Core.List.{List, [], _∷_, map}
 use mathlib.Core.Option.{Option, none, some}
 use Prim.Native.Nat.{ℕ}
 use lib.Ieee.{size, minus}
 use lib.IntN.{ℤ}
 use Rattle.little_endian.specs.Bytes.{littleEndian, bytesOf}
-use Rattle.numbers.specs.Number.{isSignificand, isBetween, isFit, isWorkingExponent, isAdmissibleExponent, isWorking, isAdmissible}
+use Rattle.numbers.specs.Number.{isSignificand, isBetween, isFit, isWorkingExponent, isAdmissibleExponent, isWorking, isAdmissible, negated}
 use Rattle.numbers.specs.Fraction.{signed, value, isEqual, sum, product, dividedBy, quotient}
 use Rattle.numbers.specs.Rounding.{settled, exponentOf, scaledNumerator, scaledDenominator, goesUp, wholeOf, placed, roundedAt, isNegative, round, hasAtMostBits, taskOf, precisionOf, isPrecision}
-use Rattle.numbers.specs.Answer.{Outcome, given, refused, checked, claimed, rounded, unlessUnknown, unlessRefused, operationOf, codedOf, sumOf, productOf, judged}
+use Rattle.numbers.specs.Answer.{Outcome, given, refused, checked, claimed, rounded, unlessUnknown, unlessRefused, operationOf, roundingOf, codedOf, sumOf, productOf, judged}
 use Rattle.numbers.specs.declared.number.Number.{Number}
 use Rattle.numbers.specs.declared.number.Number.the-variants.{Zero, Finite}
 use Rattle.codes.specs.Codes.{doubleExtended, binary64, exponentBits, allOnes, leadingOne, split, join, decoded, normalized, isCanonical, judgedCode, numberOf, readingOf, fieldOf, belowNormal, encoded, equalCode, Lent, unwritten, packed, writingOf}
@@ -42,17 +42,12 @@ up = 4
 abbrev exact : ℕ
 exact = 6
 
--- S / 2^63 × 2^e, and a power of two
+-- S / 2^63 × 2^e, and a power of two; an exponent is written `minus i o` (lib.Ieee), which is i − o
 abbrev finite : ℤ → ℕ → Number
 finite e S = Finite false e S
 
 abbrev power : ℤ → Number
 power e = finite e 0x8000000000000000
-
--- −x
-abbrev negative : Number → Number
-negative Zero = Zero
-negative (Finite s e S) = Finite true e S
 
 -- whole and broken numbers
 abbrev one : Number
@@ -77,12 +72,12 @@ is x = answered (given x)
 abbrev isRefused : ℕ → Result
 isRefused row = answered (refused row)
 
--- p / d; x rounded, as its sum with zero; x rounded once more
+-- p / d; x rounded by itself; what was given rounded once more
 abbrev divided : Number → Number → ℕ → ℕ → Result
 divided p d code n = answered (quotientOf p d code n)
 
 abbrev rounding : Number → ℕ → ℕ → Outcome
-rounding x code n = sumOf x Zero code n
+rounding x code n = roundingOf x (taskOf code n)
 
 abbrev again : Outcome → ℕ → ℕ → Outcome
 again (given x) code n = rounding x code n
@@ -105,7 +100,7 @@ values =
     ∷ (divided one three sticky 64, is (finite (minus 0 2) 0xAAAAAAAAAAAAAAAB))
     -- P4, P5: 1/3 up 1 is 1/2, −1/3 up 1 is −1/4
     ∷ (divided one three up 1, is (power (minus 0 1)))
-    ∷ (divided (negative one) three up 1, is (negative (power (minus 0 2))))
+    ∷ (divided (negated one) three up 1, is (negated (power (minus 0 2))))
     -- P6 to P8: 3/2 near 1 is 2, 5/4 near 2 is 1, 7/4 near 2 is 2
     ∷ (answered (rounding (finite (minus 0 0) 0xC000000000000000) near 1), is (power (minus 1 0)))
     ∷ (answered (rounding (finite (minus 0 0) 0xA000000000000000) near 2), is one)
@@ -115,7 +110,7 @@ values =
     ∷ (entry (entryOf 6), entry 244)
     ∷ (entry (entryOf 127), entry 128)
     -- P10: 0 / −5
-    ∷ (divided Zero (negative five) near 64, is Zero)
+    ∷ (divided Zero (negated five) near 64, is Zero)
     -- P11: 0.375 in binary64, written and read
     ∷ (writtenOver (writingOf binary64) 8 0x5555555555555555 threeEighths, wrote none 0x3FD8000000000000)
     ∷ (readFrom (readingOf binary64) 8 0x3FD8000000000000, is threeEighths)
@@ -140,5 +135,5 @@ values =
     ∷ []
 
 pub known : map (λ (v : Result × Result). v .0) values ≡ map (λ (v : Result × Result). v .1) values
-unfolding values readingOf numberOf judgedCode writingOf packed unwritten equalCode isEqual encoded fieldOf belowNormal normalized decoded isCanonical split join leadingOne bytesOf littleEndian exponentBits allOnes doubleExtended binary64 sumOf productOf codedOf operationOf unlessUnknown unlessRefused isPrecision precisionOf isWorking isFit isBetween isSignificand isWorkingExponent taskOf rounded checked claimed judged round roundedAt hasAtMostBits isNegative placed wholeOf goesUp scaledNumerator scaledDenominator exponentOf settled size value signed sum product quotientOf unlessIndivisible isZero isAdmissible isAdmissibleExponent quotient dividedBy entryOf nearest
+unfolding values negated readingOf numberOf judgedCode writingOf packed unwritten equalCode isEqual encoded fieldOf belowNormal normalized decoded isCanonical split join leadingOne bytesOf littleEndian exponentBits allOnes doubleExtended binary64 sumOf productOf codedOf operationOf roundingOf unlessUnknown unlessRefused isPrecision precisionOf isWorking isFit isBetween isSignificand isWorkingExponent taskOf rounded checked claimed judged round roundedAt hasAtMostBits isNegative placed wholeOf goesUp scaledNumerator scaledDenominator exponentOf settled size value signed sum product quotientOf unlessIndivisible isZero isAdmissible isAdmissibleExponent quotient dividedBy entryOf nearest
 known = refl

@@ -15,6 +15,9 @@ use Rattle.numbers.specs.Answer.{Outcome, given, refused}
 use Rattle.numbers.specs.Fraction.{value, isEqual}
 use Rattle.numbers.specs.Number.{isWorking}
 use Rattle.numbers.specs.Rounding.{round}
+use Rattle.numbers.specs.declared.number.Number.{Number}
+use Rattle.numbers.specs.declared.number.Number.the-variants.{Zero, Finite}
+use Rattle.numbers.specs.declared.task.Mode.the-variants.{Trunc}
 use Rattle.codes.specs.declared.code.Code.{Code}
 use Rattle.codes.specs.declared.code.Decoding.{Decoding}
 use Rattle.codes.specs.declared.code.Decoding.the-variants as decode
@@ -24,9 +27,6 @@ use Rattle.codes.specs.declared.code.Reading.the-variants as read
 use Rattle.codes.specs.declared.code.Writing.{Writing}
 use Rattle.codes.specs.declared.code.Writing.the-variants as write
 use Rattle.codes.specs.declared.double_extended.DoubleExtended.{DoubleExtended}
-use Rattle.numbers.specs.declared.number.Number.{Number}
-use Rattle.numbers.specs.declared.number.Number.the-variants.{Zero, Finite}
-use Rattle.numbers.specs.declared.task.Mode.the-variants.{Trunc}
 
 -- "Each format carries its own precision, bias and exponent ends." `stored` says how many bits of the significand a code has; `lowest` and `highest`
 -- are the exponents of field 1 and of the last field below all ones.

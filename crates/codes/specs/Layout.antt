@@ -9,16 +9,16 @@ use lib.IntN.{ℤ, pos, negℤ}
 use lib.ListN.{length}
 use Rattle.little_endian.specs.Bytes.{IsBytes}
 use Rattle.numbers.specs.Answer.{given}
-use Rattle.codes.specs.Codes.{exponentBits, readingOf, Lent, packed, writingOf, writing}
 use Rattle.numbers.specs.Fraction.{Fraction, Equal, signed, value}
 use Rattle.numbers.specs.Number.{isBetween}
+use Rattle.numbers.specs.declared.number.Number.{Number}
+use Rattle.numbers.specs.declared.number.Number.the-variants.{Zero, Finite}
+use Rattle.codes.specs.Codes.{exponentBits, readingOf, Lent, packed, writingOf, writing}
 use Rattle.codes.specs.declared.code.Code.{Code}
 use Rattle.codes.specs.declared.code.Format.{Format}
 use Rattle.codes.specs.declared.code.Writing.the-variants as write
 use Rattle.codes.specs.declared.pack.Packing.{Packing}
 use Rattle.codes.specs.declared.pack.Packing.the-variants as pack
-use Rattle.numbers.specs.declared.number.Number.{Number}
-use Rattle.numbers.specs.declared.number.Number.the-variants.{Zero, Finite}
 
 -- What the constants of a format have to do with each other. A code stores all bits of a significand or all but the top one; the bias is one
 -- less than half the number of fields; the ends are the exponents of field 1 and of the last field below all ones.

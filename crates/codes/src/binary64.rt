@@ -11,7 +11,7 @@ use super::code::Format;
 use super::code::Reading;
 use super::code::Writing;
 use super::decode::number_of;
-use super::decode::read_as;
+use super::decode::reading_of;
 use super::pack::Packing;
 use super::pack::pack;
 use super::pack::sign_bit;
@@ -68,7 +68,7 @@ impl Binary64 {
         if code.len() != Self::LENGTH {
             return Reading::WrongLength;
         }
-        read_as(Self::from_bytes(code).number())
+        reading_of(Self::from_bytes(code).number())
     }
 
     // Writes the code that equals x, or leaves the bytes as they were.

@@ -90,7 +90,7 @@ fn normalize(x: Number) -> Number
 }
 
 // What a code stands for, as what reading its bytes answers.
-pub(crate) fn read_as(found: Decoding) -> Reading
+pub(crate) fn reading_of(found: Decoding) -> Reading
     ensures { λ r. ⌜ reading r ≡ decoding found ⌝ }
 {
     match found {

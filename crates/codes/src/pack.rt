@@ -1,9 +1,9 @@
 // What is written for a number, in either format: the code that equals it, or a refusal.
 ghost use mathlib.Core.Path.{_≡_};
 ghost use mathlib.Core.Bool.{true};
+ghost use Rattle.numbers.specs.Number.{isWorkingExponent, isWorking};
 ghost use Rattle.codes.specs.Codes.{signBit, fieldOf, belowNormal, equalCode};
 ghost use Rattle.codes.specs.Layout.{IsFormat, IsPacking, packingOf};
-ghost use Rattle.numbers.specs.Number.{isWorkingExponent, isWorking};
 use super::code::Code;
 use super::code::Format;
 use super::code::Writing;

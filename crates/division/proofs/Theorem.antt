@@ -7,7 +7,7 @@ use borrow.Author.Tests.{ltb-false, le-leb}
 use lib.Dec.{ltb, lit≤}
 use lib.Ieee.{minus}
 use lib.IntN.{ℤ}
-use Rattle.numbers.specs.Answer.{Outcome, given, refused, rounded, unlessUnknown, unlessRefused}
+use Rattle.numbers.specs.Answer.{Outcome, given, refused, rounded, unlessUnknown, unlessUnfit}
 use Rattle.numbers.specs.Fraction.{value, quotient}
 use Rattle.numbers.specs.Number.{isWorking, isAdmissible}
 use Rattle.numbers.specs.Rounding.{round, byMode, taskOf, isPrecision, precisionOf}
@@ -75,7 +75,7 @@ mode-of (suc (suc (suc (suc (suc (suc k)))))) n h = absurd (omega arith)
 -- two answers that are related where no row from 1 to 5 applies are related behind these rows
 unless-related : (R : Outcome → Outcome → Type 0) (p d : Number) (code n : ℕ) (a b : Outcome) → ((k : ℕ) → 1 ≤ k → k ≤ 5 → R (refused k) (refused k))
     → (IsTaken p d code n → R a b) → R (unlessIndivisible p d code n a) (unlessIndivisible p d code n b)
-unfolding unlessIndivisible unlessUnknown unlessRefused
+unfolding unlessIndivisible unlessUnknown unlessUnfit
 unless-related R p d code n a b refusals answers = go (ltb 5 code) (isPrecision n) (isAdmissible p) (isAdmissible d) (isZero d) refl refl refl refl refl
   where
     rows : Bool → Bool → Bool → Bool → Bool → Outcome → Outcome
@@ -196,6 +196,6 @@ module _ (p d : Number) (code n : ℕ) (is : IsTaken p d code n) where
   }
 
 -- The theorem, whole: for every admissible dividend, every admissible divisor but zero, the six modes and every precision from 1 to 64 the seed is near,
--- no step fails its claim, every step's exponent is working and step 32 is the exact quotient rounded once; so 7 and 8 never leave a division.
+-- no step fails its claim, every step's exponent is working and step 32 is the exact quotient rounded once; the two entries give these values; and 7 and 8 never leave a division.
 pub division : Division
 division = record { joined = joined; answered = answered; last-is-quotient = last-is-quotient; step-answers = step-answers; quotient-answers = quotient-answers }

@@ -4,7 +4,7 @@ use Prim.Native.Nat.{ℕ}
 use Rattle.numbers.specs.Number.{isAdmissible}
 use Rattle.numbers.specs.Fraction.{value, quotient}
 use Rattle.numbers.specs.Rounding.{taskOf}
-use Rattle.numbers.specs.Answer.{Outcome, given, refused, rounded, unlessUnknown, unlessRefused}
+use Rattle.numbers.specs.Answer.{Outcome, given, refused, rounded, unlessUnknown, unlessEitherUnfit}
 use Rattle.numbers.specs.declared.number.Number.{Number}
 use Rattle.numbers.specs.declared.number.Number.the-variants.{Zero, Finite}
 use Rattle.division.specs.declared.answer.Quotient.{Quotient}
@@ -25,7 +25,7 @@ isZero (Finite negative e S) = false
 
 -- Rows 1 to 5. Row 1: "for divide and steps above 5". Rows 3 and 4: "divide takes admissible ones and code 0 to 5." Row 5: "divisor zero".
 unfoldable pub unlessIndivisible : Number → Number → ℕ → ℕ → Outcome → Outcome
-unlessIndivisible p d code n answer = unlessUnknown 5 code (unlessRefused isAdmissible p d n (cond (isZero d) (refused 5) answer))
+unlessIndivisible p d code n answer = unlessUnknown 5 code (unlessEitherUnfit isAdmissible p d n (cond (isZero d) (refused 5) answer))
 
 -- "One entry returns the quotient": the exact one, rounded once
 unfoldable pub quotientOf : Number → Number → ℕ → ℕ → Outcome

@@ -1,5 +1,5 @@
--- Document 01, "The thirty-two steps": the seed table's rule, the complement, the lines, and the value after each. "Where source document 001 and
--- this text differ on the complement or the seed table, this text decides."
+-- Document 01, "The thirty-two steps": the seed table's rule, the complement, the lines, the value after each, and when a step fails its claim. "Where
+-- source document 001 and this text differ on the complement or the seed table, this text decides."
 use mathlib.Core.Path.{_≡_}
 use mathlib.Core.Bool.{Bool, true, false, not, _&&_, _||_}
 use mathlib.Core.List.{List, [], _∷_, _++_, map}
@@ -204,13 +204,13 @@ failsOfBoth task exact (given x) (given y) = failsTask task (exact (value x) (va
 failsOfBoth task exact (given x) (refused k) = false
 failsOfBoth task exact (refused k) y = false
 
-unfoldable pub fails : (Term → Outcome) → Expression → Task → Bool
-fails outcome (of exact a) task = failsOf task exact (outcome a)
-fails outcome (ofBoth exact a b) task = failsOfBoth task exact (outcome a) (outcome b)
+unfoldable pub lineFails : (Term → Outcome) → Expression → Task → Bool
+lineFails outcome (of exact a) task = failsOf task exact (outcome a)
+lineFails outcome (ofBoth exact a b) task = failsOfBoth task exact (outcome a) (outcome b)
 
 -- "A step fails its claim when, worked out by this list on the same operands, its exact value" fails: step k
 unfoldable pub Fails : Number → Number → Task → ℕ → Type 0
 Fails p d task zero = ⊥
 Fails p d task (suc k) =
     let outcome = termOf p d (workedOut p d (lines task) []) in
-    getD (map (λ (line : Line). fails outcome (line .expression) (line .task)) (lines task)) k false ≡ true
+    getD (map (λ (line : Line). lineFails outcome (line .expression) (line .task)) (lines task)) k false ≡ true

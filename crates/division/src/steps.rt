@@ -1,5 +1,5 @@
 // All thirty-two steps: the value after any one of them, for board testers. A run ends at the wanted
-// step.
+// step, or with the digit that it belongs to.
 ghost use mathlib.Core.Path.{_≡_};
 ghost use mathlib.Core.Bool.{true, false};
 ghost use Prim.Native.Nat.{_-_, _≤_};
@@ -93,7 +93,7 @@ fn is_zero(x: Number) -> bool
 }
 
 // The answer of an operation as the answer of a step. Refusals 1 to 4 do not come: the lines have
-// codes, precisions and operands that the operations take.
+// tasks and operands that the operations take.
 fn answered(a: Answer) -> Step
     ensures { λ r. ⌜ stepOutcome r ≡ outcome a ⌝ }
 {

@@ -6,6 +6,7 @@ pub mod Powers
 pub mod Ratio
 pub mod Signs
 pub mod Fractions
+pub mod Operations
 -- Rounding, for any fraction, mode and n: the exponent that two inequalities name, whole numbers and cells, the value alone, what may stand for
 -- a value, how far a rounding moves it, and that the result is fit
 pub mod Exponent
@@ -18,7 +19,8 @@ pub mod Rounded
 pub mod Bounds
 pub mod Fits
 pub mod Bits
--- The code's own forms: biased exponents, two-word magnitudes, magnitudes with their top bit set, operands, alignment, refusals
+-- The code's own forms: biased exponents and signed words, two-word magnitudes, magnitudes with their top bit set, operands and the numbers that they
+-- stand for, alignment, refusals
 pub mod Bias
 pub mod Signed
 pub mod Words
@@ -30,4 +32,3 @@ pub mod Negated
 pub mod Sum
 pub mod Aligned
 pub mod Refusals
-pub mod Operations

@@ -1,4 +1,4 @@
--- Document 01, "What callers get": the refusals, and what add, subtract and multiply answer.
+-- Document 01, "What callers get": the refusals, and what add, subtract and multiply answer, by a task and by a mode code and a precision.
 use mathlib.Core.Bool.{Bool, not, cond}
 use Prim.Native.Nat.{ℕ}
 use lib.Dec.{ltb, eqb}
@@ -57,13 +57,13 @@ rounded (Exact claim) x = claimed (claim .precision) x
 unfoldable pub unlessUnknown : ℕ → ℕ → Outcome → Outcome
 unlessUnknown lastCode code answer = cond (ltb lastCode code) (refused 1) answer
 
--- Rows 2 to 4, for operands that are judged by `fit`: precision, first operand, second operand
-unfoldable pub unlessRefused : (Number → Bool) → Number → Number → ℕ → Outcome → Outcome
-unlessRefused fit a b n answer =
-    cond (not (isPrecision n)) (refused 2)
-    (cond (not (fit a)) (refused 3)
-    (cond (not (fit b)) (refused 4)
-    answer))
+-- Rows 2 and 3, for an operand that is judged by `fit`: "precision not 1 to 64", "only or first operand unfit"
+unfoldable pub unlessUnfit : (Number → Bool) → Number → ℕ → Outcome → Outcome
+unlessUnfit fit a n answer = cond (not (isPrecision n)) (refused 2) (cond (not (fit a)) (refused 3) answer)
+
+-- Rows 2 to 4, for two operands: row 4 is "second operand unfit"
+abbrev pub unlessEitherUnfit : (Number → Bool) → Number → Number → ℕ → Outcome → Outcome
+unlessEitherUnfit fit a b n answer = unlessUnfit fit a n (cond (not (fit b)) (refused 4) answer)
 
 -- the exact operation that a case of the enum `Operation` names
 abbrev pub exactOf : Operation → Fraction → Fraction → Fraction
@@ -73,14 +73,11 @@ exactOf Product = product
 
 -- What an operation by its task answers: "Add, subtract and multiply take working numbers"
 unfoldable pub operationOf : (Fraction → Fraction → Fraction) → Number → Number → Task → Outcome
-operationOf exact a b task = unlessRefused isWorking a b (precisionOf task) (rounded task (exact (value a) (value b)))
+operationOf exact a b task = unlessEitherUnfit isWorking a b (precisionOf task) (rounded task (exact (value a) (value b)))
 
--- What rounding a number by itself answers. Row 3: "only or first operand unfit"
+-- what rounding a number by itself answers
 unfoldable pub roundingOf : Number → Task → Outcome
-roundingOf x task =
-    cond (not (isPrecision (precisionOf task))) (refused 2)
-    (cond (not (isWorking x)) (refused 3)
-    (rounded task (value x)))
+roundingOf x task = unlessUnfit isWorking x (precisionOf task) (rounded task (value x))
 
 -- "and code 0 to 6": what add, subtract and multiply answer
 unfoldable pub codedOf : (Fraction → Fraction → Fraction) → Number → Number → ℕ → ℕ → Outcome

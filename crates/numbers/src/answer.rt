@@ -1,4 +1,4 @@
-// What add, subtract and multiply answer.
+// What an operation answers.
 use super::number::Number;
 
 // The number, or the row of document 01's table that refused: the number in each comment.

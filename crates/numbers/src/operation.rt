@@ -1,5 +1,6 @@
-// Add, subtract and multiply: any two numbers and any task, or any mode code and precision, and always
-// an answer. The operands are working numbers, the codes 0 to 6; anything else is refused.
+// Add, subtract, multiply and round by itself: any numbers and any task, or any mode code and
+// precision, and always an answer. The operands are working numbers, the codes 0 to 6; anything else is
+// refused.
 ghost use mathlib.Core.Path.{_≡_};
 ghost use mathlib.Core.Bool.{true};
 ghost use Prim.Native.Nat.{_≤_};
@@ -26,7 +27,7 @@ use super::words::Words;
 const LAST_CODE: u32 = 6;
 
 // What is added to an operand's exponent where its significand is a two-word magnitude.
-const EXPONENT_STEP: u32 = 65_598;
+const UNRAISED_STEP: u32 = 65_598;
 
 // a + b.
 pub fn add(a: Number, b: Number, code: u32, precision: u32) -> Answer
@@ -59,6 +60,7 @@ fn coded(operation: Operation, a: Number, b: Number, code: u32, precision: u32) 
     operate(operation, a, b, task_of(code, precision))
 }
 
+// An operation on two numbers.
 pub enum Operation {
     Sum,
     Difference,
@@ -129,7 +131,7 @@ fn rounded_operand(a: Operand, task: Task) -> Answer
 {
     rounded(
         a.negative,
-        a.exponent + EXPONENT_STEP,
+        a.exponent + UNRAISED_STEP,
         Words {
             high: 0,
             low: a.significand,

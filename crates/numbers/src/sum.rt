@@ -19,7 +19,7 @@ use super::words::shift_right;
 use super::words::sum;
 
 // What is added to an operand's exponent where its significand × 2^63 is a two-word magnitude.
-const EXPONENT_STEP: u32 = 65_535;
+const RAISED_STEP: u32 = 65_535;
 
 // significand × 2^63.
 fn raised(significand: u64) -> Words
@@ -72,7 +72,7 @@ fn added(large: Operand, small: Operand, task: Task) -> Answer
     );
     rounded(
         large.negative,
-        large.exponent + EXPONENT_STEP,
+        large.exponent + RAISED_STEP,
         sticky(joined, cell.rest),
         task,
     )
@@ -96,7 +96,7 @@ fn subtracted(large: Operand, small: Operand, task: Task) -> Answer
     let left = difference(less, borrow(cell.rest));
     rounded(
         large.negative,
-        large.exponent + EXPONENT_STEP,
+        large.exponent + RAISED_STEP,
         sticky(left, cell.rest),
         task,
     )

@@ -3,8 +3,9 @@ ghost use mathlib.Core.Path.{_≡_};
 ghost use Rattle.numbers.specs.Rounding.{taskOf, precisionOf, isPrecision};
 
 // The largest precision; the smallest is 1.
-pub const LARGEST_PRECISION: u32 = 64;
+const LARGEST_PRECISION: u32 = 64;
 
+// How a value between two numbers is rounded: the mode codes 0 to 5.
 pub enum Mode {
     Trunc,
     Away,

@@ -14,24 +14,24 @@ use lib.IntN.{ℤ}
 use lib.ListN.{length}
 use lib.Pow.{pow-add, pow-pos}
 use Rattle.little_endian.specs.Bytes.{littleEndian, bytesOf, IsBytes}
+use Rattle.little_endian.proofs.Laws.Bytes.{little-endian-below, little-endian-bytes, bytes-little-endian, bytes-length, bytes-are}
 use Rattle.numbers.specs.Answer.{given, refused}
-use Rattle.codes.specs.Codes.{allOnes, split, join, counted, decoded, normalized, isCanonical, judgedCode, numberOf, readingOf, fieldOf, belowNormal, encoded, equalCode, Lent, unwritten, packed, writingOf}
 use Rattle.numbers.specs.Fraction.{Equal, value}
-use Rattle.codes.specs.Layout.{IsFormat, HasEqualCode}
 use Rattle.numbers.specs.Number.{isWorkingExponent, isSignificand, isFit, isWorking, isAdmissible}
-use Rattle.codes.specs.declared.code.Code.{Code}
-use Rattle.codes.specs.declared.code.Format.{Format}
 use Rattle.numbers.specs.declared.number.Number.{Number}
 use Rattle.numbers.specs.declared.number.Number.the-variants.{Zero, Finite}
 use Rattle.numbers.proofs.Laws.Bias.{working, admissible}
-use Rattle.little_endian.proofs.Laws.Bytes.{little-endian-below, little-endian-bytes, bytes-little-endian, bytes-length, bytes-are}
-use Rattle.codes.proofs.Laws.Decoded.{normalized-equal, normalized-working, normalized-shift, normalized-zero, encoded-equal}
 use Rattle.numbers.proofs.Laws.Exponent.{minus-same}
+use Rattle.numbers.proofs.Laws.Powers.{top-bit, pow-below, word-parts, word-power}
+use Rattle.numbers.proofs.Laws.Words.{raised}
+use Rattle.codes.specs.Codes.{allOnes, split, join, counted, decoded, normalized, isCanonical, judgedCode, numberOf, readingOf, fieldOf, belowNormal, encoded, equalCode, Lent, unwritten, packed, writingOf}
+use Rattle.codes.specs.Layout.{IsFormat, HasEqualCode}
+use Rattle.codes.specs.declared.code.Code.{Code}
+use Rattle.codes.specs.declared.code.Format.{Format}
+use Rattle.codes.proofs.Laws.Decoded.{normalized-equal, normalized-working, normalized-shift, normalized-zero, encoded-equal}
 use Rattle.codes.proofs.Laws.Packed.{IsPlaced, placed-code, code-placed, equal-code}
 use Rattle.codes.proofs.Laws.Parts.{split-code, join-below, join-split, split-join, canonical-parts, all-ones, judged-given}
 use Rattle.codes.proofs.Laws.Places.{place-normal, place-below, not-above}
-use Rattle.numbers.proofs.Laws.Powers.{top-bit, pow-below, word-parts, word-power}
-use Rattle.numbers.proofs.Laws.Words.{raised}
 
 -- a code by its parts
 abbrev code : Bool → ℕ → ℕ → Code

@@ -13,23 +13,23 @@ use lib.Ieee.Fits.{down-pos}
 use lib.IntN.{ℤ, natAbs}
 use lib.Pow.{pow-add, pow-pos}
 use borrow.Author.Tests.{eqb-true, eq-eqb, ne-eqb}
-use Rattle.codes.specs.Codes.{normalized, counted, decoded, encoded, belowNormal}
 use Rattle.numbers.specs.Fraction.{Equal, signed, value, isEqual}
-use Rattle.codes.specs.Layout.{IsFormat, IsCode}
 use Rattle.numbers.specs.Number.{isWorkingExponent, isWorking}
 use Rattle.numbers.specs.Rounding.{round}
-use Rattle.codes.specs.declared.code.Code.{Code}
-use Rattle.codes.specs.declared.code.Format.{Format}
 use Rattle.numbers.specs.declared.number.Number.{Number}
 use Rattle.numbers.specs.declared.number.Number.the-variants.{Zero, Finite}
 use Rattle.numbers.proofs.Laws.Bias.{biased-working}
 use Rattle.numbers.proofs.Laws.Exponent.{minus-same}
 use Rattle.numbers.proofs.Laws.Fractions.{signed-equal, equal-test, equal-passes}
-use Rattle.codes.proofs.Laws.Places.{place-normal, place-below}
 use Rattle.numbers.proofs.Laws.Same.{round-equal, round-finite, round-working}
 use Rattle.numbers.proofs.Laws.Signs.{abs-signed}
 use Rattle.numbers.proofs.Laws.Tests.{one-test}
 use Rattle.numbers.proofs.Laws.Value.{equal-magnitudes}
+use Rattle.codes.specs.Codes.{normalized, counted, decoded, encoded, belowNormal}
+use Rattle.codes.specs.Layout.{IsFormat, IsCode}
+use Rattle.codes.specs.declared.code.Code.{Code}
+use Rattle.codes.specs.declared.code.Format.{Format}
+use Rattle.codes.proofs.Laws.Places.{place-normal, place-below}
 
 -- ---- values of two exponents
 

@@ -8,9 +8,10 @@ use native.Mathlib.Omega.{arith}
 use lib.ListN.{length}
 use borrow.Author.Tests.{eq-eqb, ne-eqb}
 use Rattle.little_endian.specs.Bytes.{littleEndian, bytesOf}
+use Rattle.numbers.specs.Number.{isWorking}
+use Rattle.numbers.specs.declared.number.Number.{Number}
 use Rattle.codes.specs.Codes.{split, join, decoded, normalized, judgedCode, decoding, numberOf, readingOf, equalCode, unwritten, packed, writingOf, reading, refusalOf, writing}
 use Rattle.codes.specs.Layout.{IsFormat, IsCode, packingOf, laid, IsPacking}
-use Rattle.numbers.specs.Number.{isWorking}
 use Rattle.codes.specs.declared.code.Code.{Code}
 use Rattle.codes.specs.declared.code.Decoding.{Decoding}
 use Rattle.codes.specs.declared.code.Format.{Format}
@@ -20,7 +21,6 @@ use Rattle.codes.specs.declared.code.Reading.{Reading}
 use Rattle.codes.specs.declared.code.Reading.the-variants as read
 use Rattle.codes.specs.declared.code.Writing.{Writing}
 use Rattle.codes.specs.declared.code.Writing.the-variants as write
-use Rattle.numbers.specs.declared.number.Number.{Number}
 use Rattle.codes.proofs.Laws.Packed.{equal-code-fits}
 use Rattle.codes.proofs.Laws.Parts.{split-code}
 

@@ -19,18 +19,18 @@ use lib.ListN.{length}
 use lib.Pow.{pow-add, pow-pos}
 use Rattle.little_endian.specs.Bytes.{littleEndian}
 use Rattle.numbers.specs.Answer.{given}
-use Rattle.codes.specs.Codes.{binary64, exponentBits, allOnes, leadingOne, split, counted, decoded, normalized, isCanonical, judgedCode, numberOf, readingOf}
 use Rattle.numbers.specs.Fraction.{IsFraction, Equal, value}
-use Rattle.codes.specs.Layout.{ieeeFraction}
-use Rattle.codes.specs.declared.code.Code.{Code}
 use Rattle.numbers.specs.declared.number.Number.{Number}
 use Rattle.numbers.specs.declared.number.Number.the-variants.{Finite}
-use Rattle.codes.proofs.Laws.Codes.{given-parts, read-value}
 use Rattle.numbers.proofs.Laws.Fractions.{signed-equal}
-use Rattle.codes.proofs.Laws.Parts.{binary64-format, canonical-parts, parts-canonical}
 use Rattle.numbers.proofs.Laws.Rounded.{value-fraction}
 use Rattle.numbers.proofs.Laws.Tests.{leb-same, eqb-same}
 use Rattle.numbers.proofs.Laws.Value.{equal-through}
+use Rattle.codes.specs.Codes.{binary64, exponentBits, allOnes, leadingOne, split, counted, decoded, normalized, isCanonical, judgedCode, numberOf, readingOf}
+use Rattle.codes.specs.Layout.{ieeeFraction}
+use Rattle.codes.specs.declared.code.Code.{Code}
+use Rattle.codes.proofs.Laws.Codes.{given-parts, read-value}
+use Rattle.codes.proofs.Laws.Parts.{binary64-format, canonical-parts, parts-canonical}
 
 -- ---- both have the same fields
 

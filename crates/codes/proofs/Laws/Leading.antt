@@ -9,12 +9,12 @@ use borrow.Author.Tests.{leb-true, leb-false, le-ltb, lt-ltb}
 use lib.Arith.{digits-lt}
 use lib.Dec.{leb, ltb}
 use lib.Pow.{pow-mono}
+use Rattle.numbers.proofs.Laws.Fits.{at-most-one}
+use Rattle.numbers.proofs.Laws.Powers.{power-twice}
 use Rattle.codes.specs.Codes.{exponentBits, leadingOne, signBit}
 use Rattle.codes.specs.Layout.{IsFormat, IsCode}
 use Rattle.codes.specs.declared.code.Code.{Code}
 use Rattle.codes.specs.declared.code.Format.{Format}
-use Rattle.numbers.proofs.Laws.Fits.{at-most-one}
-use Rattle.numbers.proofs.Laws.Powers.{power-twice}
 
 -- the leading one is stored, or is that of no normal number, or is put above the stored bits
 leading-stored : (f : Format) (field : ℕ) → f .precision ≤ f .stored → leadingOne f field ≡ 0

@@ -13,21 +13,21 @@ use lib.Ieee.{minus}
 use lib.IntN.{ℤ, pos}
 use lib.Pow.{pow-pos, pow-mono, le-ones}
 use lib.Signed.{leZ}
-use Rattle.codes.specs.Codes.{exponentBits, allOnes, decoded, isCanonical, belowNormal, encoded, zeroCode, equalCode}
 use Rattle.numbers.specs.Fraction.{Equal, signed, value, isEqual}
-use Rattle.codes.specs.Layout.{IsFormat, IsCode}
 use Rattle.numbers.specs.Number.{isWorking}
-use Rattle.codes.specs.declared.code.Code.{Code}
-use Rattle.codes.specs.declared.code.Format.{Format}
 use Rattle.numbers.specs.declared.number.Number.{Number}
 use Rattle.numbers.specs.declared.number.Number.the-variants.{Zero, Finite}
 use Rattle.numbers.proofs.Laws.Bias.{biased-working}
-use Rattle.codes.proofs.Laws.Decoded.{encoded-equal}
 use Rattle.numbers.proofs.Laws.Fractions.{equal-test}
 use Rattle.numbers.proofs.Laws.Operands.{IsWorkingFinite, working-parts}
+use Rattle.numbers.proofs.Laws.Powers.{power-parts, word-parts, word-power}
+use Rattle.codes.specs.Codes.{exponentBits, allOnes, decoded, isCanonical, belowNormal, encoded, zeroCode, equalCode}
+use Rattle.codes.specs.Layout.{IsFormat, IsCode}
+use Rattle.codes.specs.declared.code.Code.{Code}
+use Rattle.codes.specs.declared.code.Format.{Format}
+use Rattle.codes.proofs.Laws.Decoded.{encoded-equal}
 use Rattle.codes.proofs.Laws.Parts.{canonical-parts, parts-canonical, all-ones}
 use Rattle.codes.proofs.Laws.Places.{place-normal, place-below, not-above}
-use Rattle.numbers.proofs.Laws.Powers.{power-parts, word-parts, word-power}
 
 -- ---- the code that a number is cut to
 

@@ -11,11 +11,11 @@ use lib.IntN.{pos}
 use lib.Pow.{pow-add, pow-pos}
 use Rattle.little_endian.proofs.Laws.Bytes.{byte-power}
 use Rattle.numbers.specs.Answer.{given, refused}
+use Rattle.numbers.specs.declared.number.Number.{Number}
 use Rattle.codes.specs.Codes.{doubleExtended, binary64, exponentBits, allOnes, split, join, isCanonical, judgedCode}
 use Rattle.codes.specs.Layout.{IsFormat, IsCode}
 use Rattle.codes.specs.declared.code.Code.{Code}
 use Rattle.codes.specs.declared.code.Format.{Format}
-use Rattle.numbers.specs.declared.number.Number.{Number}
 use Rattle.codes.proofs.Laws.Leading.{leading-room, leading-back, upper-below}
 
 -- the constants of both formats are as those of a format are: tests that compute, and equations

@@ -9,10 +9,10 @@ use lib.Ieee.{minus}
 use lib.IntN.{ℤ, pos}
 use lib.Signed.{leZ}
 use borrow.Author.Tests.{le-leb, lt-leb}
+use Rattle.numbers.proofs.Laws.Bias.{minus-down, minus-plus, minus-minus, minus-order}
 use Rattle.codes.specs.Codes.{fieldOf, belowNormal}
 use Rattle.codes.specs.Layout.{IsFormat}
 use Rattle.codes.specs.declared.code.Format.{Format}
-use Rattle.numbers.proofs.Laws.Bias.{minus-down, minus-plus, minus-minus, minus-order}
 
 -- the exponent b - 65,535 is that of a normal number, or lies below
 module _ (f : Format) (b : ℕ) (formed : IsFormat f) where

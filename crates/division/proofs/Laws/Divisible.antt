@@ -30,12 +30,12 @@ module _ (p d : Number) (code n : ℕ) (answer : Outcome) where
   module _ (c : code ≤ 5) where
     pub bad-precision : isPrecision n ≡ false → refused 2 ≡ unlessIndivisible p d code n answer
     unfolding unlessIndivisible
-    bad-precision h = rows.bad-precision isAdmissible p d n _ h ∙ rows.known-mode 5 code _ c
+    bad-precision h = rows.bad-precision isAdmissible p n _ h ∙ rows.known-mode 5 code _ c
 
     module _ (precise : isPrecision n ≡ true) where
       pub first-unfit : isAdmissible p ≡ false → refused 3 ≡ unlessIndivisible p d code n answer
       unfolding unlessIndivisible
-      first-unfit h = rows.first-unfit isAdmissible p d n _ precise h ∙ rows.known-mode 5 code _ c
+      first-unfit h = rows.first-unfit isAdmissible p n _ precise h ∙ rows.known-mode 5 code _ c
 
       module _ (p-fit : isAdmissible p ≡ true) where
         pub second-unfit : isAdmissible d ≡ false → refused 4 ≡ unlessIndivisible p d code n answer
@@ -45,8 +45,8 @@ module _ (p d : Number) (code n : ℕ) (answer : Outcome) where
         module _ (d-fit : isAdmissible d ≡ true) where
           pub zero-divisor : isZero d ≡ true → refused 5 ≡ unlessIndivisible p d code n answer
           unfolding unlessIndivisible
-          zero-divisor h = rw h (rows.none-refused isAdmissible p d n (refused 5) precise p-fit d-fit ∙ rows.known-mode 5 code _ c)
+          zero-divisor h = rw h (rows.none-unfit isAdmissible p d n (refused 5) precise p-fit d-fit ∙ rows.known-mode 5 code _ c)
 
           pub divisible : isZero d ≡ false → answer ≡ unlessIndivisible p d code n answer
           unfolding unlessIndivisible
-          divisible h = rw h (rows.none-refused isAdmissible p d n answer precise p-fit d-fit ∙ rows.known-mode 5 code _ c)
+          divisible h = rw h (rows.none-unfit isAdmissible p d n answer precise p-fit d-fit ∙ rows.known-mode 5 code _ c)

@@ -16,7 +16,7 @@ use Rattle.numbers.specs.declared.number.Number.the-variants.{Zero, Finite}
 use Rattle.numbers.specs.declared.task.Mode.the-variants.{Trunc}
 use Rattle.numbers.specs.declared.task.Task.{Task}
 use Rattle.numbers.specs.declared.task.Task.the-variants.{Round, Exact}
-use Rattle.division.specs.Steps.{Term, Expression, of, ofBoth, Line, lines, lineOf, lineOfBoth, termOf, resultOf, workedOut, isOutside, failsTask, failsOf, failsOfBoth, fails, Fails}
+use Rattle.division.specs.Steps.{Term, Expression, of, ofBoth, Line, lines, lineOf, lineOfBoth, termOf, resultOf, workedOut, isOutside, failsTask, failsOf, failsOfBoth, lineFails, Fails}
 use Rattle.division.proofs.Lines.{own-results}
 
 abbrev pub isRefusal : Outcome → Bool
@@ -50,8 +50,8 @@ fails-refused (Exact claim) x =
     go false false false = refl
 
 -- a line whose result is given does not fail
-line-holds : (outcome : Term → Outcome) (expression : Expression) (task : Task) (y : Number) → resultOf outcome expression task ≡ given y → fails outcome expression task ≡ false
-unfolding resultOf fails lineOf lineOfBoth failsOf failsOfBoth
+line-holds : (outcome : Term → Outcome) (expression : Expression) (task : Task) (y : Number) → resultOf outcome expression task ≡ given y → lineFails outcome expression task ≡ false
+unfolding resultOf lineFails lineOf lineOfBoth failsOf failsOfBoth
 line-holds outcome (of exact a) task y h = go (outcome a) h
   where
     go : (r : Outcome) → lineOf task exact r ≡ given y → failsOf task exact r ≡ false
@@ -65,7 +65,7 @@ line-holds outcome (ofBoth exact a b) task y h = go (outcome a) (outcome b) h
     go (refused k) s h = refl
 
 lines-hold : (outcome : Term → Outcome) (ls : List Line) (xs : List Number) → map (λ (line : Line). resultOf outcome (line .expression) (line .task)) ls ≡ map given xs
-    → (k : ℕ) → getD (map (λ (line : Line). fails outcome (line .expression) (line .task)) ls) k false ≡ false
+    → (k : ℕ) → getD (map (λ (line : Line). lineFails outcome (line .expression) (line .task)) ls) k false ≡ false
 lines-hold outcome [] xs e k = refl
 lines-hold outcome (line ∷ ls) [] e k = absurd (let z : _≡_ {A = ℕ} 0 1 = cc in omega arith)
 lines-hold outcome (line ∷ ls) (x ∷ xs) e zero = line-holds outcome (line .expression) (line .task) x (cc)

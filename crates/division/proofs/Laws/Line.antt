@@ -16,7 +16,7 @@ use Rattle.numbers.specs.declared.operation.Operation.{Operation}
 use Rattle.numbers.specs.declared.task.Task.{Task}
 use Rattle.numbers.proofs.Laws.Fits.{given-working}
 use Rattle.numbers.proofs.Laws.Operations.{exact-fraction}
-use Rattle.numbers.proofs.Laws.Refusals.{range-precision, none-refused, round-unrefused}
+use Rattle.numbers.proofs.Laws.Refusals.{range-precision, first-fit, none-unfit}
 use Rattle.numbers.proofs.Laws.Rounded.{value-fraction}
 use Rattle.numbers.proofs.answer.Answer.{the-type}
 use Rattle.division.specs.Run.{IsResult, IsTask}
@@ -69,9 +69,9 @@ module _ (task : Task) where
 
     pub line-given : (a r : Answer) (x : Number) → a ≡ Given x → IsResult (outcome a) → outcome r ≡ roundingOf x task
         → (outcome r ≡ lineOf task value (outcome a)) × IsResult (outcome r)
-    unfolding lineOf outcome
+    unfolding lineOf outcome roundingOf
     line-given a r x is fit e =
-        let k = e ∙ sym (round-unrefused x task precise (as-given (outcome a) x (ap outcome is) fit)) in
+        let k = e ∙ sym (first-fit isWorking x (precisionOf task) (rounded task (value x)) precise (as-given (outcome a) x (ap outcome is) fit)) in
         (rw is k, given-result task (value x) (outcome r) (value-fraction x) fit-task k)
 
     pub both-given : (operation : Operation) (a b r : Answer) (x y : Number) → a ≡ Given x → b ≡ Given y → IsResult (outcome a) → IsResult (outcome b)
@@ -79,6 +79,6 @@ module _ (task : Task) where
     unfolding lineOfBoth outcome operationOf
     both-given operation a b r x y is is' fit fit' e =
         let exact = rounded task (exactOf operation (value x) (value y)) in
-        let k = e ∙ sym (none-refused isWorking x y (precisionOf task) exact precise (as-given (outcome a) x (ap outcome is) fit) (as-given (outcome b) y (ap outcome is') fit')) in
+        let k = e ∙ sym (none-unfit isWorking x y (precisionOf task) exact precise (as-given (outcome a) x (ap outcome is) fit) (as-given (outcome b) y (ap outcome is') fit')) in
         let total = exact-fraction operation (value x) (value y) (value-fraction x) (value-fraction y) in
         (rw (is, is') k, given-result task (exactOf operation (value x) (value y)) (outcome r) total fit-task k)

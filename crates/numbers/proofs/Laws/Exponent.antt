@@ -14,8 +14,8 @@ use lib.Ieee.{size, up, down, minus}
 use lib.Ieee.Digits.{size-lt, size-reaches, minus-val}
 use lib.Ieee.Fits.{down-pos}
 use borrow.Author.Tests.{le-leb, lt-leb}
-use Rattle.numbers.proofs.Laws.Powers.{pow-below, top-bit}
 use Rattle.numbers.specs.Rounding.{exponentOf, settled}
+use Rattle.numbers.proofs.Laws.Powers.{pow-below, top-bit}
 
 -- i - o depends on the difference alone
 pub minus-same : (i o j p : ℕ) → i + p ≡ j + o → minus i o ≡ minus j p

@@ -1,13 +1,11 @@
--- The refusals 1 to 4 in the table's order: what `unlessUnknown` and `unlessRefused` are behind each test.
+-- The refusals 1 to 4 in the table's order: what `unlessUnknown`, `unlessUnfit` and `unlessEitherUnfit` are behind each test.
 use mathlib.Core.Path.{_≡_, refl}
 use mathlib.Core.Bool.{Bool, true, false, cond}
 use Prim.Native.Nat.{ℕ, _≤_, _<_}
 use lib.Dec.{eqb}
 use borrow.Author.Tests.{lt-ltb, le-ltb, le-leb}
 use Rattle.numbers.specs.Rounding.{taskOf, isPrecision, precisionOf}
-use Rattle.numbers.specs.Answer.{Outcome, refused, rounded, unlessUnknown, unlessRefused, roundingOf}
-use Rattle.numbers.specs.Fraction.{value}
-use Rattle.numbers.specs.Number.{isWorking}
+use Rattle.numbers.specs.Answer.{Outcome, refused, unlessUnknown, unlessUnfit, unlessEitherUnfit}
 use Rattle.numbers.specs.declared.number.Number.{Number}
 use Rattle.numbers.specs.declared.task.Task.{Task}
 use Rattle.numbers.proofs.Laws.Tests.{range-true}
@@ -40,36 +38,25 @@ module _ (last code : ℕ) (answer : Outcome) where
   unfolding unlessUnknown
   known-mode h = rw (le-ltb last code h)
 
--- rows 2 to 4
-module _ (fit : Number → Bool) (a b : Number) (n : ℕ) (answer : Outcome) where
-  pub bad-precision : isPrecision n ≡ false → refused 2 ≡ unlessRefused fit a b n answer
-  unfolding unlessRefused
+-- rows 2 and 3
+module _ (fit : Number → Bool) (a : Number) (n : ℕ) (answer : Outcome) where
+  pub bad-precision : isPrecision n ≡ false → refused 2 ≡ unlessUnfit fit a n answer
+  unfolding unlessUnfit
   bad-precision h = rw h
 
   module _ (precise : isPrecision n ≡ true) where
-    pub first-unfit : fit a ≡ false → refused 3 ≡ unlessRefused fit a b n answer
-    unfolding unlessRefused
+    pub first-unfit : fit a ≡ false → refused 3 ≡ unlessUnfit fit a n answer
+    unfolding unlessUnfit
     first-unfit h = rw (precise, h)
 
-    pub second-unfit : fit a ≡ true → fit b ≡ false → refused 4 ≡ unlessRefused fit a b n answer
-    unfolding unlessRefused
-    second-unfit h k = rw (precise, h, k)
+    pub first-fit : fit a ≡ true → answer ≡ unlessUnfit fit a n answer
+    unfolding unlessUnfit
+    first-fit h = rw (precise, h)
 
-    pub none-refused : fit a ≡ true → fit b ≡ true → answer ≡ unlessRefused fit a b n answer
-    unfolding unlessRefused
-    none-refused h k = rw (precise, h, k)
+-- row 4
+module _ (fit : Number → Bool) (a b : Number) (n : ℕ) (answer : Outcome) (precise : isPrecision n ≡ true) (h : fit a ≡ true) where
+  pub second-unfit : fit b ≡ false → refused 4 ≡ unlessEitherUnfit fit a b n answer
+  second-unfit k = rw k (first-fit fit a n (refused 4) precise h)
 
--- rows 2 and 3 of a number by itself
-module _ (x : Number) (task : Task) where
-  pub round-imprecise : isPrecision (precisionOf task) ≡ false → refused 2 ≡ roundingOf x task
-  unfolding roundingOf
-  round-imprecise h = rw h
-
-  module _ (precise : isPrecision (precisionOf task) ≡ true) where
-    pub round-unfit : isWorking x ≡ false → refused 3 ≡ roundingOf x task
-    unfolding roundingOf
-    round-unfit h = rw (precise, h)
-
-    pub round-unrefused : isWorking x ≡ true → rounded task (value x) ≡ roundingOf x task
-    unfolding roundingOf
-    round-unrefused h = rw (precise, h)
+  pub none-unfit : fit b ≡ true → answer ≡ unlessEitherUnfit fit a b n answer
+  none-unfit k = rw k (first-fit fit a n answer precise h)

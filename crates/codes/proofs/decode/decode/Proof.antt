@@ -13,17 +13,17 @@ use mir.Syntax.{w32}
 use mir.Val.{SFits, toZ, ofZ}
 use borrow.Author.Needs.{needs}
 use borrow.Author.Tests.{eq-eqb, ne-eqb, not-true, not-false}
+use Rattle.numbers.specs.declared.number.Number.{Number}
+use Rattle.numbers.specs.declared.number.Number.the-variants.{Finite}
+use Rattle.numbers.proofs.Laws.Signed.{minus-fits, difference-read}
+use Rattle.numbers.proofs.Laws.Powers.{word-power}
 use Rattle.codes.specs.Codes.{decoding, allOnes, isCanonical, judgedCode, counted, decoded}
 use Rattle.codes.specs.Layout.{IsFormat, IsCode}
 use Rattle.codes.specs.declared.code.Code.{Code}
 use Rattle.codes.specs.declared.code.Format.{Format}
 use Rattle.codes.specs.declared.code.Decoding.the-variants.{Given, AllOnes, Noncanonical}
-use Rattle.numbers.specs.declared.number.Number.{Number}
-use Rattle.numbers.specs.declared.number.Number.the-variants.{Finite}
 use Rattle.codes.proofs.Laws.Decoded.{counted-most}
-use Rattle.numbers.proofs.Laws.Signed.{minus-fits, difference-read}
 use Rattle.codes.proofs.Laws.Parts.{all-ones}
-use Rattle.numbers.proofs.Laws.Powers.{word-power}
 use Rattle.codes.proofs.decode.decode.Statement.{statement}
 use Rattle.codes.proofs.decode.decode.Tie as tie
 

@@ -13,16 +13,16 @@ use mir.Syntax.{w32}
 use mir.Val.{SFits, toZ, ofZ}
 use borrow.Author.Needs.{needs}
 use borrow.Author.Tests.{leb-true, le-leb}
-use Rattle.codes.specs.Codes.{normalized}
-use Rattle.codes.specs.Layout.{isNormalizable}
 use Rattle.numbers.specs.Number.{isBetween, isFit, isWorkingExponent, isWorking}
 use Rattle.numbers.specs.declared.number.Number.{Number}
 use Rattle.numbers.specs.declared.number.Number.the-variants.{Zero, Finite}
-use Rattle.codes.proofs.Laws.Decoded.{normalized-working, normalized-shift, normalized-zero}
 use Rattle.numbers.proofs.Laws.Bias.{minus-order, minus-less}
 use Rattle.numbers.proofs.Laws.Exponent.{minus-same}
 use Rattle.numbers.proofs.Laws.Signed.{minus-fits, working-read}
 use Rattle.numbers.proofs.Laws.Words.{raised}
+use Rattle.codes.specs.Codes.{normalized}
+use Rattle.codes.specs.Layout.{isNormalizable}
+use Rattle.codes.proofs.Laws.Decoded.{normalized-working, normalized-shift, normalized-zero}
 use Rattle.codes.proofs.decode.normalize.Statement.{statement}
 use Rattle.codes.proofs.decode.normalize.Tie as tie
 

@@ -7,15 +7,15 @@ use denote.Enum.Declared.{tagOf}
 use types.Run.{OneOf, miss}
 use borrow.Author.Needs.{needs}
 use Rattle.numbers.specs.Answer.{given}
+use Rattle.numbers.specs.declared.number.Number.{Number}
+use Rattle.numbers.proofs.Laws.Bias.{between}
 use Rattle.codes.specs.Codes.{counted, decoded, normalized, judgedCode, decoding}
 use Rattle.codes.specs.Layout.{IsFormat, IsCode, isNormalizable}
 use Rattle.codes.specs.declared.code.Code.{Code}
 use Rattle.codes.specs.declared.code.Format.{Format}
 use Rattle.codes.specs.declared.code.Decoding.{Decoding}
 use Rattle.codes.specs.declared.code.Decoding.the-variants.{Given, AllOnes, Noncanonical}
-use Rattle.numbers.specs.declared.number.Number.{Number}
 use Rattle.codes.proofs.Laws.Decoded.{counted-most}
-use Rattle.numbers.proofs.Laws.Bias.{between}
 use Rattle.codes.proofs.Laws.Parts.{judged-number, judged-given, judged-refused}
 use Rattle.codes.proofs.code.Decoding.{the-type}
 use Rattle.codes.proofs.decode.number_of.Statement.{statement}

@@ -14,18 +14,18 @@ use mir.Syntax.{w32}
 use mir.Val.{SFits, toZ, ofZ}
 use borrow.Author.Needs.{needs}
 use borrow.Author.Tests.{ltb-true, ltb-false, le-leb, lt-leb, le-ltb, lt-ltb, eq-eqb, ne-eqb, not-true, not-false}
-use Rattle.codes.specs.Codes.{fieldOf, belowNormal, encoded, decoded, equalCode}
 use Rattle.numbers.specs.Fraction.{value, isEqual}
-use Rattle.codes.specs.Layout.{IsFormat, packingOf}
 use Rattle.numbers.specs.Number.{isWorkingExponent, isWorking}
-use Rattle.codes.specs.declared.code.Format.{Format}
-use Rattle.codes.specs.declared.pack.Packing.the-variants.{Code, Refused}
-use Rattle.codes.specs.declared.code.Writing.the-variants.{NoEqualCode}
 use Rattle.numbers.specs.declared.number.Number.{Number}
 use Rattle.numbers.specs.declared.number.Number.the-variants.{Zero, Finite}
 use Rattle.numbers.proofs.Laws.Bias.{biased-working}
-use Rattle.codes.proofs.Laws.Decoded.{encoded-equal}
 use Rattle.numbers.proofs.Laws.Operands.{working-parts}
+use Rattle.codes.specs.Codes.{fieldOf, belowNormal, encoded, decoded, equalCode}
+use Rattle.codes.specs.Layout.{IsFormat, packingOf}
+use Rattle.codes.specs.declared.code.Format.{Format}
+use Rattle.codes.specs.declared.pack.Packing.the-variants.{Code, Refused}
+use Rattle.codes.specs.declared.code.Writing.the-variants.{NoEqualCode}
+use Rattle.codes.proofs.Laws.Decoded.{encoded-equal}
 use Rattle.codes.proofs.Laws.Places.{place-normal, place-below}
 use Rattle.codes.proofs.pack.equal_code.Statement.{statement}
 use Rattle.codes.proofs.pack.equal_code.Tie as tie

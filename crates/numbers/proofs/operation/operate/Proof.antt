@@ -6,7 +6,7 @@ use borrow.Author.Tests.{not-true, not-false}
 use Rattle.numbers.specs.Answer.{outcome, operationOf}
 use Rattle.numbers.specs.Number.{isWorking}
 use Rattle.numbers.specs.Rounding.{isPrecision, precisionOf}
-use Rattle.numbers.proofs.Laws.Refusals.{precision-range, bad-precision, first-unfit, second-unfit, none-refused}
+use Rattle.numbers.proofs.Laws.Refusals.{precision-range, bad-precision, first-unfit, second-unfit, none-unfit}
 use Rattle.numbers.proofs.operation.operate.Statement.{statement}
 use Rattle.numbers.proofs.operation.operate.Tie as tie
 
@@ -15,7 +15,7 @@ is-precise-requires c κs = search needs
 
 returns : tie.Need-returns
 unfolding outcome operationOf
-returns c = bad-precision _ _ _ _ _ (sym (c .before .is-precise .ensures) ∙ not-true _ (c .if1 .taken))
+returns c = bad-precision _ _ _ _ (sym (c .before .is-precise .ensures) ∙ not-true _ (c .if1 .taken))
 
 is-working-requires : tie.Need-is-working-requires
 is-working-requires c κs = search needs
@@ -26,7 +26,7 @@ precise c = sym (c .before .is-precise .ensures) ∙ not-false _ (c .if1 .left)
 
 returns-2 : tie.Need-returns-2
 unfolding outcome operationOf
-returns-2 c = first-unfit _ _ _ _ _ (precise (c .before .before)) (sym (c .before .is-working .ensures) ∙ not-true _ (c .if2 .taken))
+returns-2 c = first-unfit _ _ _ _ (precise (c .before .before)) (sym (c .before .is-working .ensures) ∙ not-true _ (c .if2 .taken))
 
 is-working-requires-2 : tie.Need-is-working-requires-2
 is-working-requires-2 c κs = search needs
@@ -46,7 +46,7 @@ answer-of-requires c κs = let f = c .before .before in let n = precision-range 
 
 returns-4 : tie.Need-returns-4
 unfolding operationOf
-returns-4 c = let s = c .before in let f = s .before .before in c .answer-of .ensures ∙ none-refused _ _ _ _ _ (precise (f .before .before)) (first f) (second s)
+returns-4 c = let s = c .before in let f = s .before .before in c .answer-of .ensures ∙ none-unfit _ _ _ _ _ (precise (f .before .before)) (first f) (second s)
 
 pub operate-spec : {M : Type 1} → statement M
 operate-spec =

@@ -4,7 +4,7 @@ use mathlib.Core.Bool.{true}
 use Prim.Native.Nat.{_≤_}
 use borrow.Author.Needs.{needs}
 use borrow.Author.Tests.{not-true, not-false}
-use Rattle.numbers.specs.Answer.{Outcome, outcome, rounded}
+use Rattle.numbers.specs.Answer.{Outcome, outcome, rounded, roundingOf}
 use Rattle.numbers.specs.Fraction.{Equal, value}
 use Rattle.numbers.specs.Number.{isWorking}
 use Rattle.numbers.specs.Rounding.{isPrecision, precisionOf}
@@ -13,7 +13,7 @@ use Rattle.numbers.specs.declared.number.Number.{Number}
 use Rattle.numbers.specs.declared.operand.Operand.{Operand}
 use Rattle.numbers.specs.declared.task.Task.{Task}
 use Rattle.numbers.proofs.Laws.Operands.{operand-fraction}
-use Rattle.numbers.proofs.Laws.Refusals.{precision-range, round-imprecise, round-unfit, round-unrefused}
+use Rattle.numbers.proofs.Laws.Refusals.{precision-range, bad-precision, first-unfit, first-fit}
 use Rattle.numbers.proofs.Laws.Rounded.{value-fraction}
 use Rattle.numbers.proofs.Laws.Value.{same-outcome}
 use Rattle.numbers.proofs.operation.round.Statement.{statement}
@@ -26,8 +26,8 @@ is-precise-requires : tie.Need-is-precise-requires
 is-precise-requires c κs = search needs
 
 returns : tie.Need-returns
-unfolding outcome
-returns c = round-imprecise _ _ (sym (c .before .is-precise .ensures) ∙ not-true _ (c .if1 .taken))
+unfolding outcome roundingOf
+returns c = bad-precision _ _ _ _ (sym (c .before .is-precise .ensures) ∙ not-true _ (c .if1 .taken))
 
 is-working-requires : tie.Need-is-working-requires
 is-working-requires c κs = search needs
@@ -46,14 +46,15 @@ rounded-operand-requires : tie.Need-rounded-operand-requires
 rounded-operand-requires c κs = let n = precision-range _ (precise (c .before .before .before)) in (c .operand-of .ensures .1, n .0, n .1)
 
 returns-2 : tie.Need-returns-2
+unfolding roundingOf
 returns-2 c =
     let f = c .before .before in
     let exact = precise (f .before .before) in
-    same _ _ _ _ (precision-range _ exact .0) (c .before .operand-of .ensures .0) (c .rounded-operand .ensures) ∙ round-unrefused _ _ exact (fit f)
+    same _ _ _ _ (precision-range _ exact .0) (c .before .operand-of .ensures .0) (c .rounded-operand .ensures) ∙ first-fit _ _ _ _ exact (fit f)
 
 returns-3 : tie.Need-returns-3
-unfolding outcome
-returns-3 c = round-unfit _ _ (precise (c .before .before)) (sym (c .before .is-working .ensures) ∙ c .if2 .left)
+unfolding outcome roundingOf
+returns-3 c = first-unfit _ _ _ _ (precise (c .before .before)) (sym (c .before .is-working .ensures) ∙ c .if2 .left)
 
 pub round-spec : {M : Type 1} → statement M
 round-spec =

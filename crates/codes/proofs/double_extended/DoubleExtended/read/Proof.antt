@@ -15,12 +15,12 @@ from-bytes-requires c κs = search needs
 number-requires : tie.Need-number-requires
 number-requires c κs = search needs
 
-read-as-requires : tie.Need-read-as-requires
-read-as-requires c κs = search needs
+reading-of-requires : tie.Need-reading-of-requires
+reading-of-requires c κs = search needs
 
 returns-2 : tie.Need-returns-2
 unfolding doubleExtended
-returns-2 c = read-number doubleExtended _ _ _ _ (c .before .before .before .if1 .left) (c .before .before .from-bytes .ensures) (c .before .number .ensures) (c .read-as .ensures)
+returns-2 c = read-number doubleExtended _ _ _ _ (c .before .before .before .if1 .left) (c .before .before .from-bytes .ensures) (c .before .number .ensures) (c .reading-of .ensures)
 
 pub read-spec : {M : Type 1} → statement M
-read-spec = tie.close (tie.spec returns from-bytes-requires number-requires read-as-requires returns-2)
+read-spec = tie.close (tie.spec returns from-bytes-requires number-requires reading-of-requires returns-2)

@@ -1,8 +1,8 @@
--- `codes::decode::read_as` meets its contract: each case has the reading's of the same number.
+-- `codes::decode::reading_of` meets its contract: each case has the reading's of the same number.
 use borrow.Author.Needs.{needs}
 use Rattle.codes.specs.Codes.{decoding, reading}
-use Rattle.codes.proofs.decode.read_as.Statement.{statement}
-use Rattle.codes.proofs.decode.read_as.Tie as tie
+use Rattle.codes.proofs.decode.reading_of.Statement.{statement}
+use Rattle.codes.proofs.decode.reading_of.Tie as tie
 
 enum-known-found : tie.Need-enum-known-found
 enum-known-found c = search needs
@@ -25,5 +25,5 @@ returns-3 : tie.Need-returns-3
 unfolding reading decoding
 returns-3 c = rw (c .enum-told2 .given .1)
 
-pub read-as-spec : {M : Type 1} → statement M
-read-as-spec = tie.close (tie.spec enum-known-found enum-told enum-told-2 returns returns-2 returns-3)
+pub reading-of-spec : {M : Type 1} → statement M
+reading-of-spec = tie.close (tie.spec enum-known-found enum-told enum-told-2 returns returns-2 returns-3)

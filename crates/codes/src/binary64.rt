@@ -10,7 +10,7 @@ use super::code::Decoding;
 use super::code::Format;
 use super::code::Reading;
 use super::code::Writing;
-use super::decode::number_of;
+use super::decode::fit_number;
 use super::decode::reading_of;
 use super::pack::Packing;
 use super::pack::pack;
@@ -58,7 +58,7 @@ impl Binary64 {
     pub fn number(self) -> Decoding
         ensures { λ r. ⌜ decoding r ≡ numberOf binary64 (self .bits) ⌝ }
     {
-        number_of(self.parts(), Self::format())
+        fit_number(self.parts(), Self::format())
     }
 
     // The number in the bytes of a code, or why there is none.

@@ -9,8 +9,8 @@ use super::code::Format;
 use super::code::Reading;
 use numbers::number::Number;
 
-// The number that a code stands for. A code that is no number ends the reading with its refusal.
-pub(crate) fn number_of(code: Code, format: Format) -> Decoding
+// The fit number that a code stands for. A code that is no number ends the reading with its refusal.
+pub(crate) fn fit_number(code: Code, format: Format) -> Decoding
     requires { ⌜ IsFormat format × IsCode format code ⌝ }
     ensures { λ r. ⌜ decoding r ≡ judgedCode format code (normalized (decoded format code)) ⌝ }
 {

@@ -1,12 +1,12 @@
 // Prints the answer line of a case: a number or `written`, or `refused` with the row of document 01's
 // table that refused; after a writing also the buffer.
-use super::buffer;
-use super::number;
-use super::out;
 use codes::code::Reading;
 use codes::code::Writing;
 use division::answer::Quotient;
 use division::answer::Step;
+use lines::buffer;
+use lines::number;
+use lines::out;
 use numbers::answer::Answer;
 use numbers::number::Number;
 

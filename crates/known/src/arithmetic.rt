@@ -3,11 +3,11 @@ use super::answer;
 use super::answer::Outcome;
 use super::arguments;
 use super::arguments::Arguments;
-use super::line;
-use super::line::Cursor;
-use super::line::Line;
-use super::line::Place;
 use division::quotient::divide;
+use lines::line::Cursor;
+use lines::line::Line;
+use lines::line::Place;
+use lines::line;
 use numbers::number::Number;
 use numbers::operation::add;
 use numbers::operation::multiply;
@@ -22,7 +22,7 @@ pub enum Operation {
 }
 
 // Prints the answer to a line that begins with the operation's token; false where it does not.
-pub fn run(text: &Line, token: u64, operation: Operation) -> bool {
+pub fn run(text: &Line, token: &[u8], operation: Operation) -> bool {
     let Place::Past(c) = line::begun(text, token) else {
         return false;
     };

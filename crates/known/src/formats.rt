@@ -1,16 +1,16 @@
 // Cases of codes: one to read, or a buffer and the number to write into it.
 use super::answer;
-use super::buffer;
-use super::line;
-use super::line::Cursor;
-use super::line::Line;
-use super::line::Place;
-use super::number;
-use super::number::Operand;
 use codes::binary64::Binary64;
 use codes::code::Reading;
 use codes::code::Writing;
 use codes::double_extended::DoubleExtended;
+use lines::buffer;
+use lines::line::Cursor;
+use lines::line::Line;
+use lines::line::Place;
+use lines::line;
+use lines::number::Operand;
+use lines::number;
 use numbers::number::Number;
 
 // The format of a case.
@@ -26,7 +26,7 @@ pub enum Entry {
 }
 
 // Prints the answer to a line that begins with the entry's token; false where it does not.
-pub fn run(text: &Line, token: u64, entry: Entry) -> bool {
+pub fn run(text: &Line, token: &[u8], entry: Entry) -> bool {
     let Place::Past(c) = line::begun(text, token) else {
         return false;
     };

@@ -3,14 +3,11 @@
 mod answer;
 mod arguments;
 mod arithmetic;
-mod buffer;
 mod cases;
 mod formats;
-mod line;
-mod number;
-mod out;
-mod signed;
 mod steps;
+
+use lines::line;
 
 // Reads one line and prints its answer. False where no whole line is left.
 fn run_line() -> bool {

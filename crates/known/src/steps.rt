@@ -2,15 +2,15 @@
 use super::answer;
 use super::arguments;
 use super::arguments::Arguments;
-use super::line;
-use super::line::Cursor;
-use super::line::Line;
-use super::line::Place;
-use super::line::Word;
 use division::steps::step;
+use lines::line::Cursor;
+use lines::line::Line;
+use lines::line::Place;
+use lines::line::Word;
+use lines::line;
 
 // Prints the answer to a line that begins with the token of a step; false where it does not.
-pub fn run(text: &Line, token: u64) -> bool {
+pub fn run(text: &Line, token: &[u8]) -> bool {
     let Place::Past(c) = line::begun(text, token) else {
         return false;
     };

@@ -12,11 +12,11 @@ parts-requires c κs = search needs
 format-requires : tie.Need-format-requires
 format-requires c κs = search needs
 
-number-of-requires : tie.Need-number-of-requires
-number-of-requires c κs = read-requires doubleExtended _ _ _ double-extended-format (c .format .ensures) (c .before .parts .ensures)
+fit-number-requires : tie.Need-fit-number-requires
+fit-number-requires c κs = read-requires doubleExtended _ _ _ double-extended-format (c .format .ensures) (c .before .parts .ensures)
 
 returns : tie.Need-returns
-returns c = number-is doubleExtended _ _ _ _ (c .before .format .ensures) (c .before .before .parts .ensures) (c .number-of .ensures)
+returns c = number-is doubleExtended _ _ _ _ (c .before .format .ensures) (c .before .before .parts .ensures) (c .fit-number .ensures)
 
 pub number-spec : {M : Type 1} → statement M
-number-spec = tie.close (tie.spec parts-requires format-requires number-of-requires returns)
+number-spec = tie.close (tie.spec parts-requires format-requires fit-number-requires returns)

@@ -1,8 +1,8 @@
--- `known::line::read_decimal` is safe and ends: the measure is what is left of the line.
+-- `lines::line::read_decimal` is safe and ends: the measure is what is left of the line.
 use Prim.Native.Nat.{_-_}
 use borrow.Author.Needs.{needs}
-use Rattle.known.proofs.line.read_decimal.Statement.{statement}
-use Rattle.known.proofs.line.read_decimal.Tie as tie
+use Rattle.lines.proofs.line.read_decimal.Statement.{statement}
+use Rattle.lines.proofs.line.read_decimal.Tie as tie
 
 abbrev Inv-loop : tie.InvT-loop
 Inv-loop text start at₀ value₀ at value = Unit

@@ -1,9 +1,9 @@
--- `known::buffer::print` is safe and ends: the measure is how many bytes are left to print.
+-- `lines::buffer::print` is safe and ends: the measure is how many bytes are left to print.
 use Prim.Native.Nat.{_-_}
 use lib.ListN.{length}
 use borrow.Author.Needs.{needs}
-use Rattle.known.proofs.buffer.print.Statement.{statement}
-use Rattle.known.proofs.buffer.print.Tie as tie
+use Rattle.lines.proofs.buffer.print.Statement.{statement}
+use Rattle.lines.proofs.buffer.print.Tie as tie
 
 abbrev Inv-loop : tie.InvT-loop
 Inv-loop bytes i₀ i = Unit

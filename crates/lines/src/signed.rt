@@ -1,4 +1,4 @@
-// Exponents and their magnitudes: the only signed arithmetic of the program. `!x` is −x − 1.
+// Exponents and their magnitudes: the only signed arithmetic of the crate. `!x` is −x − 1.
 ghost use Prim.Native.Nat.{_≤_, _^_};
 
 // The magnitude of the lowest exponent that an i32 holds, and the highest exponent.

@@ -1,8 +1,8 @@
--- `known::line::ended` is safe and ends: the measure is what is left of the line before its last byte.
+-- `lines::line::ended` is safe and ends: the measure is what is left of the line before its last byte.
 use Prim.Native.Nat.{_-_}
 use borrow.Author.Needs.{needs}
-use Rattle.known.proofs.line.ended.Statement.{statement}
-use Rattle.known.proofs.line.ended.Tie as tie
+use Rattle.lines.proofs.line.ended.Statement.{statement}
+use Rattle.lines.proofs.line.ended.Tie as tie
 
 abbrev Inv-loop : tie.InvT-loop
 Inv-loop text at₀ at = Unit

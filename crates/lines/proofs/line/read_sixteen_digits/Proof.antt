@@ -1,7 +1,7 @@
--- `known::line::read_sixteen_digits` is safe and ends: the measure is how many digits are left.
+-- `lines::line::read_sixteen_digits` is safe and ends: the measure is how many digits are left.
 use borrow.Author.Needs.{needs}
-use Rattle.known.proofs.line.read_sixteen_digits.Statement.{statement}
-use Rattle.known.proofs.line.read_sixteen_digits.Tie as tie
+use Rattle.lines.proofs.line.read_sixteen_digits.Statement.{statement}
+use Rattle.lines.proofs.line.read_sixteen_digits.Tie as tie
 
 abbrev Inv-loop : tie.InvT-loop
 Inv-loop text at₀ value₀ left₀ at value left = Unit

@@ -8,9 +8,6 @@ use super::line::Line;
 use super::line::Place;
 use super::out;
 
-// What stands for a buffer of no bytes, as a token.
-const DASH: u64 = 0x2d;
-
 // The most bytes that a buffer has: more than a code of either format.
 pub const MOST: usize = 16;
 
@@ -72,7 +69,7 @@ pub fn read(text: &Line, c: Cursor) -> Buffer
 // The place past a buffer: behind its last byte, or behind the dash.
 fn past(text: &Line, c: Cursor, at: usize, length: usize) -> Place {
     if length == 0 {
-        return line::past(text, c, DASH);
+        return line::past(text, c, b"-");
     }
     Place::Past(Cursor { at })
 }

@@ -1,14 +1,10 @@
 // Reads a line from left to right. A cursor says where the next byte stands, and what reads
-// something answers with the cursor past it. A token of at most eight letters is a number: its
-// first letter is the lowest byte.
+// something answers with the cursor past it.
 
 // The bytes of a line, its newline among them.
 pub const WIDTH: usize = 80;
 
 pub type Line = [u8; WIDTH];
-
-// A space, as a token.
-pub const SPACE: u64 = 0x20;
 
 // A decimal number above this is too large for every field.
 const LARGEST: u64 = 0xffff_ffff;
@@ -36,25 +32,25 @@ pub enum Word {
     Unreadable,
 }
 
-// Do the letters of the token stand at the cursor?
-pub fn past(text: &Line, c: Cursor, token: u64) -> Place {
+// Does the token stand at the cursor?
+pub fn past(text: &Line, c: Cursor, token: &[u8]) -> Place {
     let mut at = c.at;
-    let mut left = token;
-    while left > 0 {
+    let mut i = 0;
+    while i < token.len() {
         if at >= WIDTH {
             return Place::Other;
         }
-        if wide(text[at]) != left % 256 {
+        if text[at] != token[i] {
             return Place::Other;
         }
         at += 1;
-        left = left / 256;
+        i += 1;
     }
     Place::Past(Cursor { at })
 }
 
 // The place past the token that a line begins with.
-pub fn begun(text: &Line, token: u64) -> Place {
+pub fn begun(text: &Line, token: &[u8]) -> Place {
     past(text, Cursor { at: 0 }, token)
 }
 
@@ -130,7 +126,7 @@ pub fn read_sixteen_digits(text: &Line, c: Cursor) -> Whole {
 
 // A space and a decimal number below 2^32.
 pub fn read_word(text: &Line, c: Cursor) -> Word {
-    let Place::Past(start) = past(text, c, SPACE) else {
+    let Place::Past(start) = past(text, c, b" ") else {
         return Word::Unreadable;
     };
     let Whole::Read { value, next } = read_decimal(text, start) else {

@@ -1,4 +1,4 @@
--- `known::signed::magnitude` is safe. The complement of a negative exponent's bits is its magnitude less one, and an exponent that is
+-- `lines::signed::magnitude` is safe. The complement of a negative exponent's bits is its magnitude less one, and an exponent that is
 -- not negative is its own magnitude: neither cast meets a negative number.
 use Prim.Native.Nat.{ℕ, suc, _-_, _<_}
 use mathlib.Core.Bool.{true, false}
@@ -11,8 +11,8 @@ use lib.Signed.{ltZ, mag}
 use mir.Syntax.{w32}
 use mir.Val.{SFits, toZ, ofZ}
 use mir.ValLaws.{toZ-ofZ, toZ-pos}
-use Rattle.known.proofs.signed.magnitude.Statement.{statement}
-use Rattle.known.proofs.signed.magnitude.Tie as tie
+use Rattle.lines.proofs.signed.magnitude.Statement.{statement}
+use Rattle.lines.proofs.signed.magnitude.Tie as tie
 
 complement : (z : ℤ) → SFits w32 z → ltZ z (pos 0) ≡ true → toZ w32 (4294967295 - ofZ w32 z) ≡ pos (mag z)
 complement (pos n) f t = let h : n < 0 = ltb-true n 0 t in absurd (omega arith)

@@ -9,15 +9,6 @@ use super::out;
 use super::signed;
 use numbers::number::Number;
 
-// The tokens before an operand, and before an exponent below zero.
-const ZERO: u64 = 0x6f_7265_7a20; // a space and zero
-
-const PLUS: u64 = 0x20_2b20; // a plus between spaces
-
-const MINUS: u64 = 0x20_2d20; // a minus between spaces
-
-const NEGATIVE: u64 = 0x2d20; // a space and a minus
-
 // An exponent of a line.
 enum Exponent {
     Read { value: i32, next: Cursor },
@@ -46,10 +37,10 @@ fn read_negative(text: &Line, c: Cursor) -> Exponent {
 
 // A space and an exponent.
 fn read_exponent(text: &Line, c: Cursor) -> Exponent {
-    if let Place::Past(digits) = line::past(text, c, NEGATIVE) {
+    if let Place::Past(digits) = line::past(text, c, b" -") {
         return read_negative(text, digits);
     }
-    let Place::Past(digits) = line::past(text, c, line::SPACE) else {
+    let Place::Past(digits) = line::past(text, c, b" ") else {
         return Exponent::Unreadable;
     };
     let Whole::Read { value, next } = line::read_decimal(text, digits) else {
@@ -90,14 +81,14 @@ fn read_finite(text: &Line, c: Cursor, negative: bool) -> Operand {
 
 // A space and an operand.
 pub fn read(text: &Line, c: Cursor) -> Operand {
-    if let Place::Past(next) = line::past(text, c, ZERO) {
+    if let Place::Past(next) = line::past(text, c, b" zero") {
         let value = Number::Zero;
         return Operand::Read { value, next };
     }
-    if let Place::Past(next) = line::past(text, c, PLUS) {
+    if let Place::Past(next) = line::past(text, c, b" + ") {
         return read_finite(text, next, false);
     }
-    if let Place::Past(next) = line::past(text, c, MINUS) {
+    if let Place::Past(next) = line::past(text, c, b" - ") {
         return read_finite(text, next, true);
     }
     Operand::Unreadable

@@ -1,10 +1,10 @@
--- `known::buffer::read` is safe and ends: the measure is how many more bytes a buffer may have.
+-- `lines::buffer::read` is safe and ends: the measure is how many more bytes a buffer may have.
 use mathlib.Core.Path.{_≡_}
 use Prim.Native.Nat.{_-_, _≤_}
 use lib.ListN as ListN
 use borrow.Author.Needs.{needs}
-use Rattle.known.proofs.buffer.read.Statement.{statement}
-use Rattle.known.proofs.buffer.read.Tie as tie
+use Rattle.lines.proofs.buffer.read.Statement.{statement}
+use Rattle.lines.proofs.buffer.read.Tie as tie
 
 abbrev Inv-loop : tie.InvT-loop
 Inv-loop text c bytes₀ length₀ at₀ bytes length at = (length ≤ 16) × (ListN.length bytes ≡ 16)

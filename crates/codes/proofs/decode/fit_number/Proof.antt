@@ -1,4 +1,4 @@
--- `codes::decode::number_of` meets its contract: a number that was decoded is normalized, and a refusal is returned as it is.
+-- `codes::decode::fit_number` meets its contract: a number that was decoded is normalized, and a refusal is returned as it is.
 use mathlib.Core.Path.{_≡_, sym, ap, _∙_}
 use mathlib.Core.Bool.{true}
 use mathlib.Core.List.{[], _∷_}
@@ -18,8 +18,8 @@ use Rattle.codes.specs.declared.code.Decoding.the-variants.{Given, AllOn
 use Rattle.codes.proofs.Laws.Decoded.{counted-most}
 use Rattle.codes.proofs.Laws.Parts.{judged-number, judged-given, judged-refused}
 use Rattle.codes.proofs.code.Decoding.{the-type}
-use Rattle.codes.proofs.decode.number_of.Statement.{statement}
-use Rattle.codes.proofs.decode.number_of.Tie as tie
+use Rattle.codes.proofs.decode.fit_number.Statement.{statement}
+use Rattle.codes.proofs.decode.fit_number.Tie as tie
 
 -- a refusal does not depend on the number
 refused-code : (f : Format) (c : Code) (x y : Number) (r : Decoding) → OneOf (1 ∷ 2 ∷ []) (tagOf the-type r) → decoding r ≡ judgedCode f c x → decoding r ≡ judgedCode f c y
@@ -64,5 +64,5 @@ returns-2 c =
     let found = given-code _ _ _ _ _ (c .before .before .found .given .1) (c .before .before .before .before .decode .ensures) in
     normalized-code _ _ _ _ (found .0) (found .1) (c .normalize .ensures)
 
-pub number-of-spec : {M : Type 1} → statement M
-number-of-spec = tie.close (tie.spec decode-requires enum-known-found returns normalize-requires returns-2)
+pub fit-number-spec : {M : Type 1} → statement M
+fit-number-spec = tie.close (tie.spec decode-requires enum-known-found returns normalize-requires returns-2)

@@ -1,10 +1,10 @@
 // The arguments that operations and divisions share: a mode code, a precision and two operands.
+use lines::line;
 use lines::line::Cursor;
 use lines::line::Line;
 use lines::line::Word;
-use lines::line;
-use lines::number::Operand;
 use lines::number;
+use lines::number::Operand;
 use numbers::number::Number;
 
 // The arguments of a line.

@@ -5,12 +5,12 @@ use codes::code::Reading;
 use codes::code::Writing;
 use codes::double_extended::DoubleExtended;
 use lines::buffer;
+use lines::line;
 use lines::line::Cursor;
 use lines::line::Line;
 use lines::line::Place;
-use lines::line;
-use lines::number::Operand;
 use lines::number;
+use lines::number::Operand;
 use numbers::number::Number;
 
 // The format of a case.

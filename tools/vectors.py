@@ -21,9 +21,10 @@ sys.path.insert(0, sys.argv[1])
 import arithmetic_cases
 import code_cases
 import division_cases
+import rounding_cases
 
 WIDTH = 80
-FAMILIES = (arithmetic_cases, code_cases, division_cases)
+FAMILIES = (arithmetic_cases, rounding_cases, code_cases, division_cases)
 
 
 def padded(text: str) -> str:

@@ -15,9 +15,9 @@ use super::reciprocal::reciprocal_step;
 use super::tasks::EXACT_32;
 use super::tasks::EXACT_64;
 use super::tasks::TRUNC_32;
+use arithmetic::operation::Operation;
 use numbers::answer::Answer;
 use numbers::number::Number;
-use numbers::operation::Operation;
 use numbers::task::Task;
 
 // What the digits need of a divisor: its reciprocal and its two halves, steps 6 to 8.

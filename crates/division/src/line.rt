@@ -1,14 +1,15 @@
 // A line of the thirty-two: an exact value of one or two earlier results after its task. A line
 // that takes a refused result is refused as that was.
 ghost use mathlib.Core.Path.{_≡_};
-ghost use Rattle.numbers.specs.Answer.{outcome, exactOf};
+ghost use Rattle.numbers.specs.Answer.{outcome};
 ghost use Rattle.numbers.specs.Fraction.{value};
+ghost use Rattle.arithmetic.specs.Operations.{exactOf};
 ghost use Rattle.division.specs.Run.{IsResult, IsTask};
 ghost use Rattle.division.specs.Steps.{lineOf, lineOfBoth};
+use arithmetic::operation::Operation;
+use arithmetic::operation::operate;
+use arithmetic::operation::round;
 use numbers::answer::Answer;
-use numbers::operation::Operation;
-use numbers::operation::operate;
-use numbers::operation::round;
 use numbers::task::Task;
 
 // a by itself.

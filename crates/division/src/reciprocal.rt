@@ -17,9 +17,9 @@ use super::seed::seed;
 use super::tasks::AWAY_32;
 use super::tasks::EXACT_64;
 use super::tasks::TRUNC_32;
+use arithmetic::operation::Operation;
 use numbers::answer::Answer;
 use numbers::number::Number;
-use numbers::operation::Operation;
 
 // 2 − 2^−31.
 const TWO_LESS: Number = Number::Finite {

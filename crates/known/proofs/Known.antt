@@ -11,9 +11,10 @@ use Rattle.little_endian.specs.Bytes.{littleEndian, bytesOf}
 use Rattle.numbers.specs.Number.{isSignificand, isBetween, isFit, isWorkingExponent, isAdmissibleExponent, isWorking, isAdmissible, negated}
 use Rattle.numbers.specs.Fraction.{signed, value, isEqual, sum, product, dividedBy, quotient}
 use Rattle.numbers.specs.Rounding.{settled, exponentOf, scaledNumerator, scaledDenominator, goesUp, wholeOf, placed, roundedAt, isNegative, round, hasAtMostBits, taskOf, precisionOf, isPrecision}
-use Rattle.numbers.specs.Answer.{Outcome, given, refused, checked, claimed, rounded, unlessUnknown, unlessUnfit, operationOf, roundingOf, codedOf, sumOf, productOf, judged}
+use Rattle.numbers.specs.Answer.{Outcome, given, refused, checked, claimed, rounded, unlessUnknown, unlessUnfit, judged}
 use Rattle.numbers.specs.declared.number.Number.{Number}
 use Rattle.numbers.specs.declared.number.Number.the-variants.{Zero, Finite}
+use Rattle.arithmetic.specs.Operations.{operationOf, roundingOf, codedOf, sumOf, productOf}
 use Rattle.codes.specs.Codes.{doubleExtended, binary64, exponentBits, allOnes, leadingOne, split, join, decoded, normalized, isCanonical, judgedCode, numberOf, readingOf, fieldOf, belowNormal, encoded, equalCode, Lent, unwritten, packed, writingOf}
 use Rattle.division.specs.Quotient.{isZero, unlessIndivisible, quotientOf}
 use Rattle.division.specs.Steps.{nearest, entryOf}

@@ -2,9 +2,10 @@
 // for each. The input ends where no whole line is left.
 mod answer;
 mod arguments;
-mod arithmetic;
 mod cases;
 mod formats;
+mod operations;
+mod rounding;
 mod steps;
 
 use lines::line;

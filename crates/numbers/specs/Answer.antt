@@ -1,17 +1,15 @@
--- Document 01, "What callers get": the refusals, and what add, subtract and multiply answer, by a task and by a mode code and a precision.
+-- Document 01, "What callers get": a number or a refusal, what a task gives of an exact value, and the refusals 1 to 4.
 use mathlib.Core.Bool.{Bool, not, cond}
 use Prim.Native.Nat.{ℕ}
 use lib.Dec.{ltb, eqb}
 use lib.IntN.{natAbs}
-use Rattle.numbers.specs.Number.{isWorkingExponent, isWorking}
-use Rattle.numbers.specs.Fraction.{Fraction, value, sum, difference, product}
-use Rattle.numbers.specs.Rounding.{exponentOf, round, hasAtMostBits, taskOf, precisionOf, isPrecision}
+use Rattle.numbers.specs.Number.{isWorkingExponent}
+use Rattle.numbers.specs.Fraction.{Fraction}
+use Rattle.numbers.specs.Rounding.{exponentOf, round, hasAtMostBits, isPrecision}
 use Rattle.numbers.specs.declared.answer.Answer.{Answer}
 use Rattle.numbers.specs.declared.answer.Answer.the-variants.{Given, UnknownMode, BadPrecision, FirstUnfit, SecondUnfit, ExponentOutside, TooManyBits}
 use Rattle.numbers.specs.declared.number.Number.{Number}
 use Rattle.numbers.specs.declared.number.Number.the-variants.{Zero, Finite}
-use Rattle.numbers.specs.declared.operation.Operation.{Operation}
-use Rattle.numbers.specs.declared.operation.Operation.the-variants.{Sum, Difference, Product}
 use Rattle.numbers.specs.declared.task.Mode.the-variants.{Trunc}
 use Rattle.numbers.specs.declared.task.Task.{Task}
 use Rattle.numbers.specs.declared.task.Task.the-variants.{Round, Exact}
@@ -64,30 +62,3 @@ unlessUnfit fit a n answer = cond (not (isPrecision n)) (refused 2) (cond (not (
 -- Rows 2 to 4, for two operands: row 4 is "second operand unfit"
 abbrev pub unlessEitherUnfit : (Number → Bool) → Number → Number → ℕ → Outcome → Outcome
 unlessEitherUnfit fit a b n answer = unlessUnfit fit a n (cond (not (fit b)) (refused 4) answer)
-
--- the exact operation that a case of the enum `Operation` names
-abbrev pub exactOf : Operation → Fraction → Fraction → Fraction
-exactOf Sum = sum
-exactOf Difference = difference
-exactOf Product = product
-
--- What an operation by its task answers: "Add, subtract and multiply take working numbers"
-unfoldable pub operationOf : (Fraction → Fraction → Fraction) → Number → Number → Task → Outcome
-operationOf exact a b task = unlessEitherUnfit isWorking a b (precisionOf task) (rounded task (exact (value a) (value b)))
-
--- what rounding a number by itself answers
-unfoldable pub roundingOf : Number → Task → Outcome
-roundingOf x task = unlessUnfit isWorking x (precisionOf task) (rounded task (value x))
-
--- "and code 0 to 6": what add, subtract and multiply answer
-unfoldable pub codedOf : (Fraction → Fraction → Fraction) → Number → Number → ℕ → ℕ → Outcome
-codedOf exact a b code n = unlessUnknown 6 code (operationOf exact a b (taskOf code n))
-
-unfoldable pub sumOf : Number → Number → ℕ → ℕ → Outcome
-sumOf a b code n = codedOf sum a b code n
-
-unfoldable pub differenceOf : Number → Number → ℕ → ℕ → Outcome
-differenceOf a b code n = codedOf difference a b code n
-
-unfoldable pub productOf : Number → Number → ℕ → ℕ → Outcome
-productOf a b code n = codedOf product a b code n

@@ -1,10 +1,6 @@
-// Numbers of 64 significant bits: their exact sum, difference and product, each rounded once by the
-// caller's task. What is public stands in `operation`, `number`, `task`, `answer` and `words`.
+// Numbers of 64 significant bits, which of them are fit, the tasks that round them, and what an
+// operation on them answers.
 pub mod answer;
 pub mod number;
-mod operand;
-pub mod operation;
-mod rounding;
-mod sum;
 pub mod task;
 pub mod words;

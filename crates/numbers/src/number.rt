@@ -1,10 +1,6 @@
-// Numbers, and the two ranges that say which of them are fit. Inside the crate an exponent is
-// biased: e + 65,535, a number from 0 to 131,071 for a working number.
+// Numbers, and the two ranges that say which of them are fit.
 ghost use mathlib.Core.Path.{_≡_};
-ghost use mathlib.Core.Bool.{true};
-ghost use Prim.Native.Nat.{_≤_};
-ghost use lib.Ieee.{minus};
-ghost use Rattle.numbers.specs.Number.{isBetween, isFit, isWorking, isAdmissible, isWorkingExponent, negated};
+ghost use Rattle.numbers.specs.Number.{isBetween, isFit, isWorking, isAdmissible, negated};
 
 // Zero, or a sign, an exponent and a significand: sign × significand × 2^(exponent − 63).
 pub enum Number {
@@ -24,11 +20,6 @@ pub const HIGHEST_WORKING: i32 = 65_536;
 pub const LOWEST_ADMISSIBLE: i32 = -16_446;
 
 pub const HIGHEST_ADMISSIBLE: i32 = 16_384;
-
-// What is added to a working exponent inside the crate, and the highest sum.
-pub(crate) const BIAS: u32 = 65_535;
-
-pub(crate) const HIGHEST_BIASED: u32 = 131_071;
 
 // The lowest significand: its top bit alone.
 pub const TOP_BIT: u64 = 0x8000_0000_0000_0000;
@@ -83,20 +74,4 @@ pub fn negated(x: Number) -> Number
             significand,
         },
     }
-}
-
-// A working exponent with the bias added.
-pub(crate) fn biased(exponent: i32) -> u32
-    requires { ⌜ isWorkingExponent exponent ≡ true ⌝ }
-    ensures { λ r. ⌜ (exponent ≡ minus r 65535) × (r ≤ 131071) ⌝ }
-{
-    (exponent + BIAS as i32) as u32
-}
-
-// The exponent that a biased one stands for.
-pub(crate) fn unbiased(b: u32) -> i32
-    requires { ⌜ b ≤ 131071 ⌝ }
-    ensures { λ r. ⌜ r ≡ minus b 65535 ⌝ }
-{
-    b as i32 - BIAS as i32
 }

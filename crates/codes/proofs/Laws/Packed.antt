@@ -19,8 +19,8 @@ use Rattle.numbers.specs.declared.number.Number.{Number}
 use Rattle.numbers.specs.declared.number.Number.the-variants.{Zero, Finite}
 use Rattle.numbers.proofs.Laws.Bias.{biased-working}
 use Rattle.numbers.proofs.Laws.Fractions.{equal-test}
-use Rattle.numbers.proofs.Laws.Operands.{IsWorkingFinite, working-parts}
 use Rattle.numbers.proofs.Laws.Powers.{power-parts, word-parts, word-power}
+use Rattle.numbers.proofs.Laws.Working.{IsWorkingFinite, working-parts}
 use Rattle.codes.specs.Codes.{exponentBits, allOnes, decoded, isCanonical, belowNormal, encoded, zeroCode, equalCode}
 use Rattle.codes.specs.Layout.{IsFormat, IsCode}
 use Rattle.codes.specs.declared.code.Code.{Code}

@@ -12,7 +12,7 @@ use Rattle.numbers.specs.declared.number.Number.{Number}
 use Rattle.numbers.specs.declared.number.Number.the-variants.{Zero, Finite}
 use Rattle.numbers.proofs.Laws.Bias.{minus-down, minus-up, working}
 use Rattle.numbers.proofs.Laws.Fits.{zero-working}
-use Rattle.numbers.proofs.Laws.Operands.{fit-parts}
+use Rattle.numbers.proofs.Laws.Working.{fit-parts}
 use Rattle.division.proofs.Laws.Terms.{IsRemainder}
 
 admissible-biased : (e : ℤ) → isAdmissibleExponent e ≡ true → (b : ℕ) × (e ≡ minus b 65535) × (49089 ≤ b) × (b ≤ 81919)

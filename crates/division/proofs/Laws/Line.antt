@@ -5,20 +5,21 @@ use mathlib.Core.List.{[], _∷_}
 use Prim.Native.Nat.{ℕ}
 use denote.Enum.Declared.{tagOf}
 use types.Run.{OneOf, miss}
-use Rattle.numbers.specs.Answer.{Outcome, given, refused, outcome, rounded, exactOf, operationOf, roundingOf}
+use Rattle.numbers.specs.Answer.{Outcome, given, refused, outcome, rounded}
 use Rattle.numbers.specs.Fraction.{Fraction, IsFraction, value}
 use Rattle.numbers.specs.Number.{isWorking}
 use Rattle.numbers.specs.Rounding.{precisionOf, isPrecision}
 use Rattle.numbers.specs.declared.answer.Answer.{Answer}
 use Rattle.numbers.specs.declared.answer.Answer.the-variants.{Given, UnknownMode, BadPrecision, FirstUnfit, SecondUnfit, ExponentOutside, TooManyBits}
 use Rattle.numbers.specs.declared.number.Number.{Number}
-use Rattle.numbers.specs.declared.operation.Operation.{Operation}
 use Rattle.numbers.specs.declared.task.Task.{Task}
 use Rattle.numbers.proofs.Laws.Fits.{given-working}
-use Rattle.numbers.proofs.Laws.Operations.{exact-fraction}
 use Rattle.numbers.proofs.Laws.Refusals.{range-precision, first-fit, none-unfit}
 use Rattle.numbers.proofs.Laws.Rounded.{value-fraction}
 use Rattle.numbers.proofs.answer.Answer.{the-type}
+use Rattle.arithmetic.specs.Operations.{exactOf, operationOf, roundingOf}
+use Rattle.arithmetic.specs.declared.operation.Operation.{Operation}
+use Rattle.arithmetic.proofs.Laws.Operations.{exact-fraction}
 use Rattle.division.specs.Run.{IsResult, IsTask}
 use Rattle.division.specs.Steps.{lineOf, lineOfBoth}
 

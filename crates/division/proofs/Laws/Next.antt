@@ -15,10 +15,10 @@ use Rattle.numbers.specs.Rounding.{claim}
 use Rattle.numbers.specs.declared.number.Number.{Number}
 use Rattle.numbers.specs.declared.number.Number.the-variants.{Zero, Finite}
 use Rattle.numbers.proofs.Laws.Bias.{biased-working}
-use Rattle.numbers.proofs.Laws.Operands.{IsWorkingFinite, working-parts}
 use Rattle.numbers.proofs.Laws.Powers.{pow-below}
 use Rattle.numbers.proofs.Laws.Ratio.{Ratio, gap, ratio-gap}
 use Rattle.numbers.proofs.Laws.Signs.{unlike-twice}
+use Rattle.numbers.proofs.Laws.Working.{IsWorkingFinite, working-parts}
 use Rattle.division.proofs.Laws.Estimate.{half-parts}
 use Rattle.division.proofs.Laws.Exact.{product-scaled, lessSign, difference-scaled, less-twice-scaled, restored}
 use Rattle.division.proofs.Laws.Quotients.{quotient-below}

@@ -14,8 +14,8 @@ use lib.Signed.{leZ-yes, ltZ-yes}
 use Rattle.numbers.specs.Fraction.{Fraction, IsFraction, Equal, AtMost, Below, signed, value, magnitude}
 use Rattle.numbers.specs.Rounding.{isNegative}
 use Rattle.numbers.specs.declared.number.Number.the-variants.{Zero, Finite}
+use Rattle.numbers.proofs.Laws.Bias.{biased-power}
 use Rattle.numbers.proofs.Laws.Fractions.{signed-equal}
-use Rattle.numbers.proofs.Laws.Operands.{biased-power}
 use Rattle.numbers.proofs.Laws.Rounded.{value-fraction}
 use Rattle.numbers.proofs.Laws.Signs.{abs-signed, negative-signed, abs-zero, signed-zero, signed-times}
 use Rattle.numbers.proofs.Laws.Value.{equal-magnitudes, equal-signs, equal-back, equal-through}

@@ -2,13 +2,15 @@
 -- whether i - o is working or admissible.
 use mathlib.Core.Path.{_≡_, refl, sym, ap, ap₂, _∙_}
 use mathlib.Core.Bool.{true, false, _&&_, and-false, and-eq-true-iff}
-use Prim.Native.Nat.{ℕ, zero, suc, _+_, _-_, _≤_, _<_, zero-le}
+use Prim.Native.Nat.{ℕ, zero, suc, _+_, _-_, _*_, _^_, _≤_, _<_, zero-le}
 use native.Mathlib.Decide.{decLe}
 use native.Mathlib.Nat.{add-zero, lt-of-not-le}
 use native.Mathlib.Omega.{arith}
 use lib.Dec.{leb}
-use lib.Ieee.{minus}
+use lib.Ieee.{up, down, minus}
+use lib.Ieee.Digits.{minus-val}
 use lib.IntN.{ℤ, pos, negsuc, negℤ, subℕ, _+ℤ_, _-ℤ_}
+use lib.Pow.{pow-add}
 use lib.Signed.{mag, leZ}
 use borrow.Author.Tests.{leb-true, le-leb, lt-leb, le-ltb, lt-ltb}
 use Rattle.numbers.specs.Number.{isBetween, isWorkingExponent, isAdmissibleExponent}
@@ -31,6 +33,12 @@ biased-working (pos a) h =
 biased-working (negsuc a) h =
     let l : a ≤ 65534 = leb-true a 65534 (and-eq-true-iff (leb a 65534) true .0 h .0) in
     (65534 - a, rw (le-ltb 65535 (suc a) (omega arith)) (ap pos (omega arith)), omega arith, sym (minus-up (65534 - a) 65535 (omega arith) ∙ ap negsuc (omega arith)))
+
+-- S × 2^(E - o) over 2^t is S × 2^(E + q) over 2^l, where l is o + q + t
+pub biased-power : (S E o q t l : ℕ) → l ≡ o + (q + t) → S * up (minus E o) * 2 ^ l ≡ S * 2 ^ (E + q) * (2 ^ t * down (minus E o))
+biased-power S E o q t l e =
+    ap (λ (n : ℕ). S * up (minus E o) * n) (ap (λ (n : ℕ). 2 ^ n) e ∙ pow-add 2 o (q + t) ∙ ap (λ (n : ℕ). 2 ^ o * n) (pow-add 2 q t))
+    ∙ omega (arith, ap (λ (n : ℕ). n * (2 ^ q * 2 ^ t)) (minus-val S E o), ap (λ (n : ℕ). S * n * (2 ^ t * down (minus E o))) (pow-add 2 E q))
 
 -- |i - o| and one more, at the most
 pub minus-small : (i o k : ℕ) → i < o + k → o ≤ i + k → mag (minus i o) < k

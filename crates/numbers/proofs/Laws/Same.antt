@@ -12,9 +12,9 @@ use Rattle.numbers.specs.declared.number.Number.{Number}
 use Rattle.numbers.specs.declared.number.Number.the-variants.{Zero, Finite}
 use Rattle.numbers.specs.declared.task.Mode.the-variants.{Trunc}
 use Rattle.numbers.proofs.Laws.Bounds.{kept-number}
-use Rattle.numbers.proofs.Laws.Operands.{working-parts}
 use Rattle.numbers.proofs.Laws.Rounded.{value-fraction}
 use Rattle.numbers.proofs.Laws.Value.{value-alone}
+use Rattle.numbers.proofs.Laws.Working.{working-parts}
 
 -- numbers of one value have one rounding
 pub round-equal : (x y : Number) → Equal (value x) (value y) → round Trunc 64 (value x) ≡ round Trunc 64 (value y)

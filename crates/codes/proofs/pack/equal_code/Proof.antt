@@ -19,7 +19,7 @@ use Rattle.numbers.specs.Number.{isWorkingExponent, isWorking}
 use Rattle.numbers.specs.declared.number.Number.{Number}
 use Rattle.numbers.specs.declared.number.Number.the-variants.{Zero, Finite}
 use Rattle.numbers.proofs.Laws.Bias.{biased-working}
-use Rattle.numbers.proofs.Laws.Operands.{working-parts}
+use Rattle.numbers.proofs.Laws.Working.{working-parts}
 use Rattle.codes.specs.Codes.{fieldOf, belowNormal, encoded, decoded, equalCode}
 use Rattle.codes.specs.Layout.{IsFormat, packingOf}
 use Rattle.codes.specs.declared.code.Format.{Format}

@@ -1,0 +1,52 @@
+-- `arithmetic::sum::added` meets its contract: Laws.Aligned takes the callees' equations to the answer.
+use borrow.Author.Needs.{needs}
+use Rattle.arithmetic.proofs.Laws.Aligned.{added-fits, added-answer}
+use Rattle.arithmetic.proofs.sum.added.Statement.{statement}
+use Rattle.arithmetic.proofs.sum.added.Tie as tie
+
+raised-requires : tie.Need-raised-requires
+raised-requires c κs = search needs
+
+raised-requires-2 : tie.Need-raised-requires-2
+raised-requires-2 c κs = search needs
+
+sub-shift-right : tie.Need-sub-shift-right
+sub-shift-right c = search needs
+
+shift-right-requires : tie.Need-shift-right-requires
+shift-right-requires c κs = search needs
+
+sum-requires : tie.Need-sum-requires
+sum-requires c κs =
+    let start = c .before .before .before .before .before in
+    added-fits _ _ (start .pre .0) _ (start .pre .2) (start .pre .3) _ _ _ (c .shift-right .result .rest) (c .before .before .before .before .raised .ensures) (c .before .before .before .raised2 .ensures) (c .shift-right .ensures .0) (c .shift-right .ensures .1)
+
+add-rounded : tie.Need-add-rounded
+add-rounded c = search needs
+
+sticky-requires : tie.Need-sticky-requires
+sticky-requires c κs = search needs
+
+rounded-requires : tie.Need-rounded-requires
+rounded-requires c κs = search needs
+
+returns : tie.Need-returns
+returns c =
+    let start = c .before .before .before .before .before .before .before .before .before in
+    let cell = c .before .before .before .before in
+    added-answer _ _ (start .pre .0) _ (start .pre .2) (start .pre .3) _ _ _ (cell .shift-right .result .rest) (cell .before .before .before .before .raised .ensures) (cell .before .before .before .raised2 .ensures) (cell .shift-right .ensures .0)
+    (cell .shift-right .ensures .1) (start .pre .1) _ _ _ (c .before .before .before .sum .ensures) (c .before .sticky .ensures) (c .rounded .ensures)
+
+pub added-spec : {M : Type 1} → statement M
+added-spec =
+    tie.close
+    (tie.spec
+    raised-requires
+    raised-requires-2
+    sub-shift-right
+    shift-right-requires
+    sum-requires
+    add-rounded
+    sticky-requires
+    rounded-requires
+    returns)

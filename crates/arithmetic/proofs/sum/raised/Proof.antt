@@ -1,0 +1,16 @@
+-- `arithmetic::sum::raised` meets its contract: half the significand stands in the upper word, its last bit at the top of the lower one.
+use native.Mathlib.Omega.{arith}
+use borrow.Author.Needs.{needs}
+use Rattle.arithmetic.specs.Magnitude.{wide}
+use Rattle.arithmetic.proofs.sum.raised.Statement.{statement}
+use Rattle.arithmetic.proofs.sum.raised.Tie as tie
+
+mul-t4 : tie.Need-mul-t4
+mul-t4 c = search needs
+
+returns : tie.Need-returns
+unfolding wide
+returns c = omega arith
+
+pub raised-spec : {M : Type 1} → statement M
+raised-spec = tie.close (tie.spec mul-t4 returns)

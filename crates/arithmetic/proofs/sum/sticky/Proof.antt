@@ -1,0 +1,34 @@
+-- `arithmetic::sum::sticky` meets its contract: a word is even, so the last bit of the magnitude is that of its lower word.
+use mathlib.Core.Path.{_≡_}
+use mathlib.Core.Bool.{Bool, true, false, cond}
+use Prim.Native.Nat.{ℕ, _+_, _*_, _/_}
+use native.Mathlib.Omega.{arith}
+use borrow.Author.Needs.{needs}
+use Rattle.arithmetic.specs.Magnitude.{wide, oddOf}
+use Rattle.arithmetic.proofs.sum.sticky.Statement.{statement}
+use Rattle.arithmetic.proofs.sum.sticky.Tie as tie
+
+odd : (high low : ℕ) → wide high (low / 2 * 2 + 1) ≡ oddOf (wide high low)
+unfolding wide oddOf
+odd high low = omega arith
+
+set : (rest : Bool) (high low : ℕ) → rest ≡ true → wide high (low / 2 * 2 + 1) ≡ cond rest (oddOf (wide high low)) (wide high low)
+set rest high low e = rw e (odd high low)
+
+clear : (rest : Bool) (high low : ℕ) → rest ≡ false → wide high low ≡ cond rest (oddOf (wide high low)) (wide high low)
+clear rest high low e = rw e
+
+mul-t6 : tie.Need-mul-t6
+mul-t6 c = search needs
+
+add-t7 : tie.Need-add-t7
+add-t7 c = search needs
+
+returns : tie.Need-returns
+returns c = set _ _ _ (c .before .if1 .taken)
+
+returns-2 : tie.Need-returns-2
+returns-2 c = clear _ _ _ (c .if1 .left)
+
+pub sticky-spec : {M : Type 1} → statement M
+sticky-spec = tie.close (tie.spec mul-t6 add-t7 returns returns-2)

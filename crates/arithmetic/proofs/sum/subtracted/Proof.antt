@@ -1,0 +1,64 @@
+-- `arithmetic::sum::subtracted` meets its contract: Laws.Aligned takes the callees' equations to the answer.
+use borrow.Author.Needs.{needs}
+use Rattle.arithmetic.proofs.Laws.Aligned.{subtracted-fits, borrowed-fits, subtracted-answer}
+use Rattle.arithmetic.proofs.sum.subtracted.Statement.{statement}
+use Rattle.arithmetic.proofs.sum.subtracted.Tie as tie
+
+raised-requires : tie.Need-raised-requires
+raised-requires c κs = search needs
+
+raised-requires-2 : tie.Need-raised-requires-2
+raised-requires-2 c κs = search needs
+
+sub-shift-right : tie.Need-sub-shift-right
+sub-shift-right c = search needs
+
+shift-right-requires : tie.Need-shift-right-requires
+shift-right-requires c κs = search needs
+
+difference-requires : tie.Need-difference-requires
+difference-requires c κs =
+    let start = c .before .before .before .before .before in
+    subtracted-fits _ _ (start .pre .0) _ (start .pre .2) (start .pre .3) _ _ _ (c .shift-right .result .rest) (c .before .before .before .before .raised .ensures) (c .before .before .before .raised2 .ensures) (c .shift-right .ensures .0) (c .shift-right .ensures .1)
+
+borrow-requires : tie.Need-borrow-requires
+borrow-requires c κs = search needs
+
+difference-requires-2 : tie.Need-difference-requires-2
+difference-requires-2 c κs =
+    let cell = c .before .before in
+    let start = cell .before .before .before .before .before in
+    borrowed-fits _ _ (start .pre .0) _ (start .pre .2) (start .pre .3) _ _ _ (cell .shift-right .result .rest) (cell .before .before .before .before .raised .ensures) (cell .before .before .before .raised2 .ensures) (cell .shift-right .ensures .0)
+    (cell .shift-right .ensures .1) _ _ (c .before .difference .ensures) (c .borrow .ensures)
+
+add-rounded : tie.Need-add-rounded
+add-rounded c = search needs
+
+sticky-requires : tie.Need-sticky-requires
+sticky-requires c κs = search needs
+
+rounded-requires : tie.Need-rounded-requires
+rounded-requires c κs = search needs
+
+returns : tie.Need-returns
+returns c =
+    let cell = c .before .before .before .before .before .before in
+    let start = cell .before .before .before .before .before in
+    subtracted-answer _ _ (start .pre .0) _ (start .pre .2) (start .pre .3) _ _ _ (cell .shift-right .result .rest) (cell .before .before .before .before .raised .ensures) (cell .before .before .before .raised2 .ensures) (cell .shift-right .ensures .0)
+    (cell .shift-right .ensures .1) (start .pre .1) _ _ _ _ _ (c .before .before .before .before .before .difference .ensures) (c .before .before .before .before .borrow .ensures) (c .before .before .before .difference2 .ensures) (c .before .sticky .ensures) (c .rounded .ensures)
+
+pub subtracted-spec : {M : Type 1} → statement M
+subtracted-spec =
+    tie.close
+    (tie.spec
+    raised-requires
+    raised-requires-2
+    sub-shift-right
+    shift-right-requires
+    difference-requires
+    borrow-requires
+    difference-requires-2
+    add-rounded
+    sticky-requires
+    rounded-requires
+    returns)

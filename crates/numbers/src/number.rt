@@ -39,7 +39,7 @@ pub fn is_admissible(x: Number) -> bool
 }
 
 // Is x zero, or has its significand the top bit set and is its exponent between the two ends?
-fn is_fit(x: Number, lowest: i32, highest: i32) -> bool
+pub fn is_fit(x: Number, lowest: i32, highest: i32) -> bool
     ensures { λ r. ⌜ r ≡ isFit (isBetween lowest highest) x ⌝ }
 {
     let Number::Finite {

@@ -18,6 +18,7 @@ use Rattle.numbers.specs.Number.{isWorkingExponent, isWorking}
 use Rattle.numbers.specs.Rounding.{round}
 use Rattle.numbers.specs.declared.number.Number.{Number}
 use Rattle.numbers.specs.declared.number.Number.the-variants.{Zero, Finite}
+use Rattle.numbers.specs.declared.task.Mode.the-variants.{Trunc}
 use Rattle.numbers.proofs.Laws.Bias.{biased-working}
 use Rattle.numbers.proofs.Laws.Exponent.{minus-same}
 use Rattle.numbers.proofs.Laws.Fractions.{signed-equal, equal-test, equal-passes}
@@ -76,7 +77,7 @@ normalized-equal x y h = round-equal x y h
 
 normalized-finite : (s : Bool) (e : ℤ) (S : ℕ) → 2 ^ 63 ≤ S → S < 2 ^ 64 → normalized (Finite s e S) ≡ Finite s e S
 unfolding normalized
-normalized-finite s e S low high = round-finite s e S low high
+normalized-finite s e S low high = round-finite Trunc s e S low high
 
 pub normalized-working : (x : Number) → isWorking x ≡ true → normalized x ≡ x
 unfolding normalized

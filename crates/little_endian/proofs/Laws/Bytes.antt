@@ -8,7 +8,7 @@ use native.Mathlib.Omega.{arith}
 use lib.Arith.{digits-div}
 use lib.Dec.{lit<}
 use lib.Pow.{pow-add}
-use lib.ListN.{length, getD, take, drop, length-drop, take-append-drop, drop-of-length-le}
+use lib.ListN.{length, getD, take, drop, replicate, length-drop, take-append-drop, drop-of-length-le}
 use lib.Seq.{length-take-le, take-all, take-at, drop-at, drop-cons}
 use Rattle.little_endian.specs.Bytes.{littleEndian, bytesOf, IsBytes}
 
@@ -91,17 +91,30 @@ read-whole bytes are h =
     mod-eq-of-lt (lt-of-lt-of-le (little-endian-below bytes are) most)
 
 -- the first bytes are bytes, and so are the last ones
-bytes-take : (n : ℕ) (bytes : List ℕ) → IsBytes bytes → IsBytes (take n bytes)
+pub bytes-take : (n : ℕ) (bytes : List ℕ) → IsBytes bytes → IsBytes (take n bytes)
 unfolding IsBytes
 bytes-take zero bytes h i = lit< tt
 bytes-take (suc n) [] h i = h i
 bytes-take (suc n) (b ∷ bytes) h zero = h 0
 bytes-take (suc n) (b ∷ bytes) h (suc i) = bytes-take n bytes (λ (j : ℕ). h (suc j)) i
 
-bytes-drop : (n : ℕ) (bytes : List ℕ) → IsBytes bytes → IsBytes (drop n bytes)
+pub bytes-drop : (n : ℕ) (bytes : List ℕ) → IsBytes bytes → IsBytes (drop n bytes)
 bytes-drop zero bytes h = h
 bytes-drop (suc n) [] h = h
 bytes-drop (suc n) (b ∷ bytes) h = bytes-drop n bytes (bytes-tail b bytes h .1)
+
+-- bytes after bytes are bytes, and so are zeros
+pub joined-bytes : (xs ys : List ℕ) → IsBytes xs → IsBytes ys → IsBytes (xs ++ ys)
+unfolding IsBytes
+joined-bytes [] ys p q i = q i
+joined-bytes (x ∷ xs) ys p q zero = p 0
+joined-bytes (x ∷ xs) ys p q (suc i) = joined-bytes xs ys (λ (j : ℕ). p (suc j)) q i
+
+pub zero-bytes : (n : ℕ) → IsBytes (replicate n 0)
+unfolding IsBytes
+zero-bytes zero i = lit< tt
+zero-bytes (suc n) zero = lit< tt
+zero-bytes (suc n) (suc i) = zero-bytes n i
 
 -- what the n lowest bytes do not hold has no effect on them
 bytes-low : (n v w : ℕ) → bytesOf n (v * 256 ^ n + w) ≡ bytesOf n w

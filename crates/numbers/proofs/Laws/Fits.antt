@@ -58,7 +58,7 @@ placed-fits s e n q n0 n1 low high = go (ℕ-discrete q (2 ^ n))
         below : (a b : ℕ) → a ≤ b → (a ≡ b → ⊥) → a < b
         below a b l m = omega arith
 
-round-zero : (mode : Mode) (n : ℕ) (x : Fraction) → natAbs (x .numerator) ≡ 0 → round mode n x ≡ Zero
+pub round-zero : (mode : Mode) (n : ℕ) (x : Fraction) → natAbs (x .numerator) ≡ 0 → round mode n x ≡ Zero
 unfolding round
 round-zero mode n x e = rw e
 

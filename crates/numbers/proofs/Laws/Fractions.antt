@@ -7,7 +7,7 @@ use native.Mathlib.Decide.{decLe}
 use native.Mathlib.Nat.{zero-mul, le-antisymm, le-of-lt, lt-of-not-le, add-mul, mul-comm, mul-assoc, mul-sub, mul-le-mul-right, lt-of-mul-lt-mul-right, mul-pos}
 use native.Mathlib.Omega.{arith}
 use lib.Ieee.{unlike}
-use lib.IntN.{ℤ, pos, negsuc, negℤ, negℤ-negℤ, natAbs, +ℤ-comm, zero-*ℤ, *ℤ-negsuc, _+ℤ_, _*ℤ_}
+use lib.IntN.{ℤ, pos, negsuc, negℤ, negℤ-negℤ, natAbs, +ℤ-comm, +ℤ-assoc, +ℤ-idl, zero-*ℤ, *ℤ-one, *ℤ-negsuc, _+ℤ_, _*ℤ_}
 use lib.Signed.{leZ}
 use borrow.Author.Tests.{leb-true, le-leb}
 use Rattle.numbers.specs.Fraction.{Fraction, IsFraction, Equal, isEqual, signed, sum, difference, product, dividedBy, quotient}
@@ -84,6 +84,43 @@ pub sum-swap : (x y : Fraction) → sum x y ≡ sum y x
 unfolding sum
 sum-swap x y =
     ap₂ fraction (+ℤ-comm (x .numerator *ℤ pos (y .denominator)) (y .numerator *ℤ pos (x .denominator))) (mul-comm (x .denominator) (y .denominator))
+
+-- zero added, and three fractions in either grouping
+pub sum-zero : (x : Fraction) → sum (fraction (pos 0) 1) x ≡ x
+unfolding sum lib.IntN.one
+sum-zero x =
+    ap₂ fraction (ap₂ _+ℤ_ (zero-*ℤ (pos (x .denominator))) (*ℤ-one (x .numerator)) ∙ +ℤ-idl (x .numerator)) (let e : 1 * x .denominator ≡ x .denominator = omega arith in e)
+
+pub sum-grouped : (x y z : Fraction) → sum (sum x y) z ≡ sum x (sum y z)
+unfolding sum
+sum-grouped x y z =
+    ap₂ fraction
+    (ap (λ (w : ℤ). w +ℤ r *ℤ pos (a * b)) (sum-times (p *ℤ pos b) (q *ℤ pos a) c ∙ ap₂ _+ℤ_ (times-times p b c) (turned q a c))
+    ∙ +ℤ-assoc (p *ℤ pos (b * c)) (q *ℤ pos c *ℤ pos a) (r *ℤ pos (a * b))
+    ∙ ap (λ (w : ℤ). p *ℤ pos (b * c) +ℤ w)
+    (ap (λ (w : ℤ). q *ℤ pos c *ℤ pos a +ℤ w) (ap (λ (n : ℕ). r *ℤ pos n) (mul-comm a b) ∙ sym (times-times r b a)) ∙ sym (sum-times (q *ℤ pos c) (r *ℤ pos b) a)))
+    (mul-assoc a b c)
+  where
+    p : ℤ
+    p = x .numerator
+
+    q : ℤ
+    q = y .numerator
+
+    r : ℤ
+    r = z .numerator
+
+    a : ℕ
+    a = x .denominator
+
+    b : ℕ
+    b = y .denominator
+
+    c : ℕ
+    c = z .denominator
+
+    turned : (w : ℤ) (m n : ℕ) → w *ℤ pos m *ℤ pos n ≡ w *ℤ pos n *ℤ pos m
+    turned w m n = times-times w m n ∙ ap (λ (k : ℕ). w *ℤ pos k) (mul-comm m n) ∙ sym (times-times w n m)
 
 -- the sum over any denominators that equal the fractions'
 pub sum-equal : (x y u v : Fraction) → Equal x u → Equal y v → Equal (sum x y) (sum u v)

@@ -2,8 +2,9 @@
 use mathlib.Core.Path.{_≡_, refl, sym, ap, _∙_}
 use mathlib.Core.Bool.{true, false}
 use Prim.Native.Nat.{ℕ, zero, suc, _+_, _-_, _*_, _/_, _%_, _^_, _≤_, _<_}
-use native.Mathlib.Nat.{le-add-right, le-trans, le-of-suc-le-suc, lt-of-le-of-lt, zero-lt-suc, lt-of-mul-lt-mul-right, sub-add-cancel, add-zero, zero-mul, mul-comm, mul-pos, mul-le-mul, mul-le-mul-right, mul-mod-left, mul-div-cancel, mul-div-mul-right, mul-add-div-right, mul-add-mod-self-right, mod-lt, mod-one, mod-eq-of-lt, div-one, div-eq-of-lt, div-lt-iff-lt-mul, div-add-mod', div-div-eq-div-mul, suc-add}
+use native.Mathlib.Nat.{le-add-right, le-trans, le-of-suc-le-suc, lt-of-le-of-lt, zero-lt-suc, lt-of-mul-lt-mul-right, sub-add-cancel, add-zero, zero-mul, mul-comm, mul-pos, mul-le-mul, mul-le-mul-right, mul-mod-left, mul-div-cancel, mul-div-mul-right, mul-add-div-right, mul-add-mod-self-right, mod-lt, mod-one, mod-eq-of-lt, div-one, div-eq-of-lt, div-lt-iff-lt-mul, div-add-mod', div-div-eq-div-mul, pos-of-ne-zero, suc-add}
 use native.Mathlib.Omega.{arith}
+use lib.Count.{leadingZeros, leading-top}
 use lib.Dec.{ltb}
 use lib.Arith.{digits-lt, digits-div, digits-mod, mod-mul}
 use lib.Pow.{pow-add, pow-pos, shl-lt}
@@ -99,6 +100,10 @@ raised n j s a e lo hi =
     let low : n ≡ j + s = omega arith in
     let high : suc n ≡ suc j + s = omega arith in
     (omega arith, rw (low, pow-add) (mul-le-mul-right (2 ^ s) lo), rw high (shl-lt (suc j) s hi))
+
+-- a word shifted left by its leading zeros
+pub top-first : (a : ℕ) → (a ≡ 0 → ⊥) → a < 2 ^ 64 → (leadingZeros 64 a ≤ 63) × (2 ^ 63 ≤ a * 2 ^ leadingZeros 64 a) × (a * 2 ^ leadingZeros 64 a < 2 ^ 64)
+top-first a some word = let t = leading-top 64 a (pos-of-ne-zero some) word in raised 63 (t .0) (leadingZeros 64 a) a (t .1) (t .2) (t .3)
 
 -- the top bit of a number of two words is its high word's
 pub top : (k j h l : ℕ) → l < 2 ^ k → 2 ^ j ≤ h → h < 2 ^ suc j → (2 ^ (j + k) ≤ h * 2 ^ k + l) × (h * 2 ^ k + l < 2 ^ suc (j + k))

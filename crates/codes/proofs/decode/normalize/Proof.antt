@@ -2,9 +2,9 @@
 use mathlib.Core.Path.{_≡_, refl, sym, ap, ap₂, _∙_}
 use mathlib.Core.Bool.{Bool, true, and-eq-true-iff}
 use Prim.Native.Nat.{ℕ, _+_, _-_, _*_, _%_, _^_, _≤_, _<_}
-use native.Mathlib.Nat.{le-trans, mod-eq-of-lt, pos-of-ne-zero}
+use native.Mathlib.Nat.{le-trans, mod-eq-of-lt}
 use native.Mathlib.Omega.{arith}
-use lib.Count.{leadingZeros, leading-top}
+use lib.Count.{leadingZeros}
 use lib.Ieee.{minus}
 use lib.IntN.{ℤ, pos, negsuc, negℤ, _-ℤ_}
 use lib.Signed.{leZ}
@@ -19,7 +19,7 @@ use Rattle.numbers.specs.declared.number.Number.the-variants.{Zero, Finite}
 use Rattle.numbers.proofs.Laws.Bias.{minus-order, minus-less}
 use Rattle.numbers.proofs.Laws.Exponent.{minus-same}
 use Rattle.numbers.proofs.Laws.Signed.{minus-fits, working-read}
-use Rattle.numbers.proofs.Laws.Words.{raised}
+use Rattle.numbers.proofs.Laws.Words.{top-first}
 use Rattle.codes.specs.Codes.{normalized}
 use Rattle.codes.specs.Layout.{isNormalizable}
 use Rattle.codes.proofs.Laws.Decoded.{normalized-working, normalized-shift, normalized-zero}
@@ -29,10 +29,6 @@ use Rattle.codes.proofs.decode.normalize.Tie as tie
 zero-number : (x : Number) → x ≡ Zero → Zero ≡ normalized x
 unfolding isWorking isFit
 zero-number x is = sym (ap normalized is ∙ normalized-working Zero refl)
-
--- the zeros above the top bit of S
-shifted : (S : ℕ) → (S ≡ 0 → ⊥) → S < 2 ^ 64 → (leadingZeros 64 S ≤ 63) × (2 ^ 63 ≤ S * 2 ^ leadingZeros 64 S) × (S * 2 ^ leadingZeros 64 S < 2 ^ 64)
-shifted S n word = let t = leading-top 64 S (pos-of-ne-zero n) word in raised 63 (t .0) (leadingZeros 64 S) S (t .1) (t .2) (t .3)
 
 module _ (x : Number) (s : Bool) (e : ℤ) (S : ℕ) (h : isNormalizable x ≡ true) (is : x ≡ Finite s e S) where
   between : isBetween (minus 0 65472) (pos 65536) e ≡ true
@@ -71,7 +67,7 @@ module _ (x : Number) (s : Bool) (e : ℤ) (S : ℕ) (h : isNormalizable x ≡ t
   moved : SFits w32 e → (S ≡ 0 → ⊥) → S < 2 ^ 64
       → Finite s (toZ w32 (ofZ w32 (toZ w32 (ofZ w32 e) -ℤ toZ w32 (leadingZeros 64 S)))) (S * 2 ^ leadingZeros 64 S % 18446744073709551616) ≡ normalized x
   moved fits n word =
-      let m = shifted S n word in
+      let m = top-first S n word in
       let z = leadingZeros 64 S in
       let w = working-read e fits exponent-working in
       ap₂ (Finite s) (toZ-ofZ (lowered-fits fits z (m .0)) ∙ lowered fits z (m .0)) (mod-eq-of-lt {m = 18446744073709551616} (m .2))
@@ -91,7 +87,7 @@ returns-2 c = none-left _ _ _ _ (c .before .before .before .before .pre) (c .bef
 
 -- the zeros, which are few
 few : (c : tie.Else1) → leadingZeros 64 (c .before .before .x .given .0 .1 .1 .0) ≤ 63
-few c = shifted _ (c .if1 .left) (omega arith) .0
+few c = top-first _ (c .if1 .left) (omega arith) .0
 
 cast-t7 : tie.Need-cast-t7
 cast-t7 c = record { sfits = omega (arith, few c) }

@@ -1,0 +1,20 @@
+-- The laws of depots. Of blocks: their fields, the block that is written for some records, and the sequences of blocks that are taken.
+pub mod Lists
+pub mod Fields
+pub mod Split
+pub mod Written
+pub mod Sequence
+-- Of figures: amounts, what roundings do to them, the bracket of a sum, its spread, the bracket of a mean, and the range of sums
+pub mod Order
+pub mod Amounts
+pub mod Close
+pub mod Bracket
+pub mod Spread
+pub mod Mean
+pub mod Range
+-- Of the entries below: what they answer on a depot's numbers
+pub mod Answers
+-- Of the state and the book
+pub mod Vans
+pub mod Earlier
+pub mod Reached

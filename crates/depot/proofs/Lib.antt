@@ -1,0 +1,3 @@
+-- The theorem on lists of calls and the laws; each function's proof stands in the folder of its name.
+pub mod Laws
+pub mod Demand

@@ -13,13 +13,13 @@ use Rattle.numbers.specs.Fraction.{Fraction, signed, value, isEqual, sum, divid
 use Rattle.numbers.specs.Rounding.{settled, exponentOf, scaledNumerator, scaledDenominator, goesUp, wholeOf, placed, roundedAt, isNegative, round}
 use Rattle.numbers.specs.declared.number.Number.{Number}
 use Rattle.numbers.specs.declared.number.Number.the-variants.{Zero, Finite}
-use Rattle.depot.specs.Block.{field, word, blockNumberOf, countOf, reservedOf, recordAt, recordsFrom, recordsOf, tailOf, areZero, sumOfWords, checkOf, hasCheck, mostRecords, isCount, closes, isLaidOut, isLargerThanAll, isSound, isLawful, areLawful, rowOf}
+use Rattle.blocks.specs.Block.{field, word, blockNumberOf, countOf, reservedOf, recordAt, recordsFrom, recordsOf, tailOf, areZero, sumOfWords, checkOf, hasCheck, mostRecords, isCount, closes, isLaidOut, isLargerThanAll, isSound, isLawful, areLawful, rowOf}
 use Rattle.depot.specs.Figures.{isParked, isMoved, rate, isOver, moreIf, withRate, whole, meanOf, Figures, given, refused, figuresBy}
 use Rattle.depot.specs.Depot.{fresh, withRecord, withRecords, withBlock, isNegativeNumber, isFitSum, areBlocksFit, isFitDepot, Loaded, loadRow, leftBy, loadOf, figuresOf}
 use Rattle.depot.specs.Book.{vansOf, isClosed, bookRow, addedBy, offered, countBy, ratesOf, movedCount, exactSum, exactMean, totalFrom, totalOf, vansFigures}
 use Rattle.depot.specs.Calls.{Call, load, ask, depotAfter, bookAfter, Reply, toLoad, toAsk, repliesOf, repliesBy}
 use Rattle.depot.specs.Sequence.{recordBytes, recordsBytes, bodyOf, blockOf}
-use Rattle.depot.specs.declared.record.Record.{Record}
+use Rattle.blocks.specs.declared.record.Record.{Record}
 use Rattle.depot.specs.declared.state.Depot.{Depot}
 use Rattle.depot.proofs.Laws.Written.{block-bytes}
 

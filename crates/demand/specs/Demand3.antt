@@ -1,9 +1,11 @@
 -- Demand 3, whole: what holds of every division, and what holds of every list of calls from a fresh depot; proofs/Demand3 has its proof.
 use Rattle.division.specs.Theorem.{Division}
-use Rattle.depot.specs.Demand.{CallsHold}
+use Rattle.depot.specs.Demand.{CallsHold, RunsHold}
 
 pub record Demand3 : Type 0 where
   -- no step fails its claim, step 32 is the exact quotient rounded once, and 7 and 8 never leave a division
   pub division : Division
   -- the book, the counts, the replies, the figures and the bracket of every list of calls
   pub depot : CallsHold
+  -- and the same of every run of the entries themselves
+  pub entries : RunsHold

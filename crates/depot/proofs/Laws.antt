@@ -1,6 +1,4 @@
--- The laws of depots. Of blocks: their fields, the block that is written for some records, and the sequences of blocks that are taken.
-pub mod Lists
-pub mod Fields
+-- The laws of depots. Of blocks: the block that is written for some records, and the sequences of blocks that are taken.
 pub mod Split
 pub mod Written
 pub mod Sequence
@@ -16,5 +14,6 @@ pub mod Range
 pub mod Answers
 -- Of the state and the book
 pub mod Vans
-pub mod Earlier
 pub mod Reached
+-- Of the code: room in a state for the records of a block
+pub mod Room

@@ -1,12 +1,12 @@
--- What a reader must believe of the crate `depot`, in document 01's order: a block, its records and their rules (Block), what a record counts as, its rate
--- and the figures of two sums (Figures), the depot's state, what loading a block and asking for figures answer (Depot), the book that is kept from the
--- offered blocks, the vans taken and their mean (Book), a list of calls and its replies (Calls), and what demand 3 says of every such list (Demand).
--- Sequence has the terms that the laws of written blocks are stated in; no promise of a public function cites them.
+-- What a reader must believe of the crate `depot`, in document 01's order: what a record counts as, its rate and the figures of two sums (Figures), the
+-- depot's state, what loading a block and asking for figures answer (Depot), the book that is kept from the offered blocks, the vans taken and their mean
+-- (Book), a list of calls and its replies (Calls), and what demand 3 says of every such list (Demand). Blocks and records are those of the crate `blocks`.
+-- Sequence has the terms that the laws of written blocks are stated in, Room those of private contracts; no promise of a public function cites them.
 -- Definitions only; the laws stand in proofs.
-pub mod Block
 pub mod Figures
 pub mod Depot
 pub mod Book
 pub mod Calls
 pub mod Demand
 pub mod Sequence
+pub mod Room

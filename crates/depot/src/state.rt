@@ -44,7 +44,8 @@ impl Depot {
         }
     }
 
-    // Are the counts, the blocks and the sums such as a depot can have?
+    // Is the state fit: at most 4,096 vans moved or parked, no more of them over, fewer than 205 blocks
+    // taken unless it is closed, and both sums fit?
     pub fn is_fit(self) -> bool
         ensures { λ r. ⌜ r ≡ isFitDepot self ⌝ }
     {

@@ -24,7 +24,7 @@ use Rattle.numbers.proofs.Laws.Value.{value-alone, equal-magnitudes}
 use Rattle.arithmetic.specs.Operations.{operationOf, codedOf, sumOf}
 use Rattle.division.specs.Quotient.{isZero, unlessIndivisible, quotientOf}
 use Rattle.depot.specs.Figures.{rate, whole, withRate, meanOf}
-use Rattle.depot.specs.declared.record.Record.{Record}
+use Rattle.blocks.specs.declared.record.Record.{Record}
 use Rattle.depot.proofs.Laws.Amounts.{top, IsAmount, sum-top, sum-amount, part-top, part-bottom, part-amount}
 use Rattle.depot.proofs.Laws.Close.{parts, round-amount, round-down, round-up}
 use Rattle.depot.proofs.Laws.Bracket.{IsSum, value-amount, round-sum, added}

@@ -1,9 +1,11 @@
-"""Makes the cases of the program `known` and the answers it must print.
+"""Makes the input of the programs `known` and `known_depot`, and what they must print.
 
     python3 tools/vectors.py FOLDER
 
-FOLDER holds the reference model, model.py.  The cases go to crates/known/stdin, one to a line of
-80 bytes, and the model's answers to crates/known/stdout.  The same cases come out of every run.
+FOLDER holds the reference model and its maker of blocks, model.py, requests.py and make_blocks.py.
+A program's input goes to the file stdin of its crate, the model's answers to the file stdout.  The
+cases of `known` are lines of 80 bytes; so are the calls of `known_depot`, each with the bytes that
+it offers behind it.  The same files come out of every run.
 """
 
 from __future__ import annotations
@@ -13,42 +15,67 @@ import sys
 from pathlib import Path
 
 if len(sys.argv) != 2:
-    sys.exit("usage: python3 tools/vectors.py FOLDER, which holds model.py")
+    sys.exit("usage: python3 tools/vectors.py FOLDER, which holds model.py, requests.py and "
+             "make_blocks.py")
 ROOT = Path(__file__).resolve().parent.parent
 sys.dont_write_bytecode = True
 sys.path.insert(0, sys.argv[1])
 
 import arithmetic_cases
 import code_cases
+import damage_cases
+import depot_cases
+import depot_coverage
 import division_cases
 import rounding_cases
+import state_cases
 
 WIDTH = 80
 FAMILIES = (arithmetic_cases, rounding_cases, code_cases, division_cases)
+DEPOT_FAMILIES = (depot_cases, damage_cases, state_cases)
 
 
-def padded(text: str) -> str:
+def padded(text: str) -> bytes:
     """A line of the input: the text, spaces, a newline."""
     assert len(text) < WIDTH, text
-    return text.ljust(WIDTH - 1) + "\n"
+    return text.ljust(WIDTH - 1).encode("ascii") + b"\n"
 
 
-def main() -> None:
-    """Writes the two files and prints how many cases of each kind there are."""
+def write(crate: str, given: list[bytes], wanted: list[str]) -> None:
+    """Writes the two files of a crate."""
+    folder = ROOT / "crates" / crate
+    (folder / "stdin").write_bytes(b"".join(given))
+    (folder / "stdout").write_text("".join(line + "\n" for line in wanted), encoding="ascii")
+
+
+def known() -> None:
+    """Makes the cases of `known` and prints how many of each kind there are."""
     given, wanted = [], []
     for kind in (kind for family in FAMILIES for kind in family.KINDS):
         cases = list(kind(random.Random(kind.__name__)))
         given += [padded(case.text) for case in cases]
-        wanted += [case.answer + "\n" for case in cases]
+        wanted += [case.answer for case in cases]
         print(f"{len(cases):5} {kind.__module__} {kind.__name__}")
     lines = [line for family in FAMILIES for line in family.NO_CASES.splitlines()]
     given += [padded(line) for line in lines]
-    wanted += ["not a case\n"] * len(lines)
+    wanted += ["not a case"] * len(lines)
     print(f"{len(lines):5} not a case\n{len(given):5} in all")
-    crate = ROOT / "crates" / "known"
-    (crate / "stdin").write_text("".join(given), encoding="ascii")
-    (crate / "stdout").write_text("".join(wanted), encoding="ascii")
+    write("known", given, wanted)
+
+
+def known_depot() -> None:
+    """Makes the calls of `known_depot` and prints how many of each kind there are."""
+    sequences = []
+    for kind in (kind for family in DEPOT_FAMILIES for kind in family.KINDS):
+        made = list(kind(random.Random(kind.__name__)))
+        sequences += made
+        print(f"{sum(len(calls.given) for calls in made):5} {kind.__module__} {kind.__name__}")
+    lines = [line for calls in sequences for line in calls.given]
+    print(f"{len(lines):5} in all: {depot_coverage.summary(sequences)}")
+    write("known_depot", [padded(line.text) + line.content for line in lines],
+          [text for calls in sequences for text in calls.wanted])
 
 
 if __name__ == "__main__":
-    main()
+    known()
+    known_depot()

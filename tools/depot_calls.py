@@ -1,0 +1,127 @@
+"""Sequences of calls of a depot, and what the model answers to each."""
+
+from __future__ import annotations
+
+import random
+from dataclasses import replace
+from typing import Callable, NamedTuple, Optional, Sequence
+
+import model
+from make_blocks import random_record
+from model import FRESH, Depot, Number, Record, Refused
+from operands import number_text, refusal_text
+from requests import make_block
+
+
+class Part(NamedTuple):
+    """A part of a state that one line hands in: its word, and the model's names of its fields."""
+
+    word: str
+    fields: tuple[str, ...]
+
+    def text(self, depot: Depot) -> str:
+        """The part as a line has it."""
+        return " ".join((self.word, *(field_text(getattr(depot, name)) for name in self.fields)))
+
+
+def field_text(value: bool | int | Number) -> str:
+    """A field of a state as a line has it."""
+    if isinstance(value, bool):
+        return "closed" if value else "open"
+    return str(value) if isinstance(value, int) else number_text(value)
+
+
+PARTS = (Part("blocks", ("blocks", "closed", "last_van")),
+         Part("vans", ("moved", "parked", "over")),
+         Part("sums", ("low_sum", "high_sum")))
+
+
+class Line(NamedTuple):
+    """A line of the input, and the bytes behind it."""
+
+    text: str
+    content: bytes = b""
+
+
+class Offer(NamedTuple):
+    """A block offered: the state before, its bytes, and the row if it was refused."""
+
+    depot: Depot
+    block: bytes
+    row: Optional[int]
+
+
+class Calls:
+    """Calls one after the other from a fresh depot, their answers, and the state after them."""
+
+    def __init__(self) -> None:
+        self.depot = FRESH
+        self.given: list[Line] = []
+        self.wanted: list[str] = []
+        self.offers: list[Offer] = []
+        self.states: list[Depot] = []
+        self.asked: list[Optional[int]] = []
+        self._answered(Line("fresh"), "fit")
+
+    def _answered(self, line: Line, answer: str) -> None:
+        """Adds a line, its answer, and the state that it leaves."""
+        self.given.append(line)
+        self.wanted += [answer, " ".join(part.text(self.depot) for part in PARTS)]
+
+    def hand_in(self, **fields) -> None:
+        """Hands in the state with other fields, by a line for each part that differs."""
+        other = replace(self.depot, **fields)
+        for part in (part for part in PARTS if part.text(other) != part.text(self.depot)):
+            values = {name: getattr(other, name) for name in part.fields}
+            self.depot = replace(self.depot, **values)
+            fit = model.depot_is_fit(self.depot)
+            self._answered(Line(part.text(other)), "fit" if fit else "unfit")
+        assert self.depot == other
+        self.states.append(other)
+
+    def load(self, block: bytes) -> Optional[int]:
+        """Offers a block; the row if it is refused."""
+        before = self.depot
+        refusal, self.depot = model.load_block(before, block)
+        text, row = (refusal_text(refusal), refusal.number) if refusal else ("taken", None)
+        self.offers.append(Offer(before, block, row))
+        self._answered(Line(f"load {len(block)}", block), text)
+        return row
+
+    def ask(self) -> Optional[int]:
+        """Asks for figures; the row if they are refused."""
+        answer = model.figures(self.depot)
+        if isinstance(answer, Refused):
+            text, row = refusal_text(answer), answer.number
+        else:
+            text, row = f"low {number_text(answer.low)} high {number_text(answer.high)}", None
+        self.asked.append(row)
+        self._answered(Line("ask"), text)
+        return row
+
+    def no_call(self, text: str) -> None:
+        """A line that is no call."""
+        self._answered(Line(text), "not a call")
+
+    def due(self, records: Sequence[Record]) -> bytes:
+        """The block that is due, with these records."""
+        return make_block(self.depot.blocks, records)
+
+    def records(self, chance: random.Random, count: int, style: str = "mixed") -> list[Record]:
+        """Records that the depot may take next: their vans rise from its last one."""
+        room = (2**32 - 1 - self.depot.last_van) // max(count, 1)
+        assert room > 0
+        van, records = self.depot.last_van, []
+        for _ in range(count):
+            van += chance.randint(1, min(room, chance.choice((1, 9, 1_000_000))))
+            records.append(random_record(chance, van, style))
+        return records
+
+    def next_block(self, chance: random.Random, count: int = model.FULL_COUNT) -> bytes:
+        """The block that is due, with as many records that the depot may take."""
+        return self.due(self.records(chance, count))
+
+    def following(self, count: int, record: Callable[[int], Record]) -> bytes:
+        """The block that is due, with the records of the vans right after the last one."""
+        first = self.depot.last_van + 1
+        return self.due([record(van) for van in range(first, first + count)])

@@ -1,0 +1,50 @@
+// Reads standard input piece by piece.
+ghost use mathlib.Core.Path.{_≡_};
+ghost use lib.ListN.{length};
+ghost use Rattle.io.specs.Counts.{Counts};
+ghost use Rattle.report.specs.Program.{gotOf, bytesRead};
+use libc::STDIN_FILENO;
+
+// How many bytes a piece has, or that a read failed.
+pub enum Piece {
+    Read(usize),
+    Failed,
+}
+
+// What one read brought: so many bytes, the end of the input, or a failure.
+enum Got {
+    Bytes(usize),
+    End,
+    Failed,
+}
+
+// Fills the buffer from its start. Only the end of the input makes a piece shorter than the buffer: a
+// read that brings less than was asked for is followed by another.
+pub fn read_piece(buffer: &mut [u8]) -> Piece
+    ensures { λ r. ⌜ Counts (bytesRead r) (now (buffer .exit)) ⌝ }
+{
+    let mut from = 0;
+    while from < buffer.len() {
+        let answer = libc::read(STDIN_FILENO, &mut buffer[from..]);
+        match got_of(answer, &buffer[from..]) {
+            Got::Bytes(count) => from += count,
+            Got::End => return Piece::Read(from),
+            Got::Failed => return Piece::Failed,
+        }
+    }
+    Piece::Read(from)
+}
+
+// What a read with this room answered: a failure is never taken for the end of the input.
+fn got_of(answer: isize, room: &[u8]) -> Got
+    ensures { λ r. ⌜ r ≡ gotOf answer (length (now (room .entry))) ⌝ }
+{
+    if answer < 0 {
+        return Got::Failed;
+    }
+    let count = io::count(answer, room);
+    if count == 0 {
+        return Got::End;
+    }
+    Got::Bytes(count)
+}

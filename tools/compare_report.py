@@ -1,0 +1,120 @@
+"""Compares the program `report` with the reference model on many inputs.
+
+    python3 tools/compare_report.py FOLDER PROGRAM
+
+FOLDER holds the reference model and its maker of blocks, model.py, requests.py and make_blocks.py;
+PROGRAM is the built program, target/bin/report after `rt check report`.  Sound and damaged inputs
+are given whole and, some of them, in small pieces; then come a read that fails and a write that
+fails.  Prints each difference, and how many inputs and how many differences there were.  The same
+inputs come out of every run.
+"""
+
+from __future__ import annotations
+
+import os
+import random
+import subprocess
+import sys
+import time
+from collections.abc import Iterator
+
+if len(sys.argv) != 3:
+    sys.exit("usage: python3 tools/compare_report.py FOLDER PROGRAM")
+FOLDER, PROGRAM = sys.argv[1:]
+sys.dont_write_bytecode = True
+sys.path.insert(0, FOLDER)
+
+import make_blocks
+import requests
+
+# Document 01's own rules and edition of blocks: those before any request.
+RULES = requests.rules_after(0)
+EDITION = "0"
+SECONDS = 20
+
+
+def inputs() -> Iterator[tuple[str, bytes]]:
+    """Every kind of damage, with ordinary and extreme records, few vans and as many as fit."""
+    for damage in make_blocks.DAMAGES:
+        for style in make_blocks.STYLES:
+            for vans in (1, 19, 20, 21, 50, 100):
+                for seed in (1, 2, 3):
+                    yield made(seed, vans, style, damage)
+        for vans in (4079, 4080, 4081, 4095, 4096):
+            yield made(1, vans, "mixed", damage)
+    block = make_blocks.make_pieces(1, 20, "mixed", "none", EDITION)[0]
+    for length in range(513):
+        yield f"a block cut to {length} bytes", block[:length]
+        yield f"{length} zeros", bytes(length)
+
+
+def made(seed: int, vans: int, style: str, damage: str) -> tuple[str, bytes]:
+    """The name and the bytes of one input."""
+    pieces = make_blocks.make_pieces(seed, vans, style, damage, EDITION)
+    return f"seed {seed}, {vans} vans, {style}, damage {damage}", b"".join(pieces)
+
+
+def whole(data: bytes) -> tuple[bytes, bytes]:
+    """What the program writes to its two outputs when the input is at hand at once."""
+    run = subprocess.run([PROGRAM], input=data, capture_output=True, timeout=SECONDS)
+    return run.stdout, run.stderr
+
+
+def in_small_pieces(data: bytes) -> tuple[bytes, bytes]:
+    """The same where a pipe brings a few bytes at a time."""
+    rng = random.Random(len(data))
+    run = subprocess.Popen([PROGRAM], stdin=subprocess.PIPE, stdout=subprocess.PIPE,
+                           stderr=subprocess.PIPE)
+    at = 0
+    try:
+        while at < len(data):
+            size = rng.choice((1, 2, 3, 5, 100, 200))
+            os.write(run.stdin.fileno(), data[at:at + size])
+            at += size
+            time.sleep(0.0005)
+    except BrokenPipeError:
+        pass
+    return run.communicate(timeout=SECONDS)
+
+
+def with_redirection(words: str) -> tuple[bytes, bytes]:
+    """The same under a shell's redirection."""
+    run = subprocess.run(["sh", "-c", f'"$0" {words}', PROGRAM], capture_output=True,
+                         timeout=SECONDS)
+    return run.stdout, run.stderr
+
+
+class Comparison:
+    """How many inputs were given, and on how many the program wrote something else."""
+
+    def __init__(self) -> None:
+        self.inputs = 0
+        self.differences = 0
+
+    def expect(self, name: str, found: tuple[bytes, bytes], wanted: tuple[bytes, bytes]) -> None:
+        self.inputs += 1
+        if found != wanted:
+            self.differences += 1
+            print(f"{name}: wanted {wanted}, found {found}")
+
+
+def main() -> None:
+    comparison = Comparison()
+    for name, data in inputs():
+        wanted = requests.report(data, RULES).encode(), b""
+        comparison.expect(name, whole(data), wanted)
+        if name.startswith(("seed 1, 50 vans, mixed", "seed 1, 100 vans, extreme")):
+            comparison.expect(name + ", in small pieces", in_small_pieces(data), wanted)
+    comparison.expect("a closed input", with_redirection("<&-"),
+                      (b"", b"report: cannot read standard input\n"))
+    comparison.expect("a folder as input", with_redirection("</"),
+                      (b"", b"report: cannot read standard input\n"))
+    for words in ("</dev/null >/dev/full", "</dev/null >&-"):
+        comparison.expect("an output that takes nothing: " + words, with_redirection(words),
+                          (b"", b"report: cannot write to standard output\n"))
+    print(f"{comparison.inputs} inputs, {comparison.differences} differences")
+    sys.exit(comparison.differences > 0)
+
+
+if __name__ == "__main__":
+    main()

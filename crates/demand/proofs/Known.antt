@@ -36,7 +36,7 @@ pub data Result : Type 0 where
 -- ---- how a line is written
 
 -- a record by its van, start, end, fuel and speed
-abbrev lawful : ℕ → ℕ → ℕ → ℕ → ℕ → Record
+abbrev pub lawful : ℕ → ℕ → ℕ → ℕ → ℕ → Record
 lawful van start end fuel speed = record { van = van; start = start; end = end; fuel = fuel; speed = speed; sixth = 0 }
 
 -- document 01's sample, and the block of its three vans
@@ -47,11 +47,11 @@ abbrev sampleBlock : List ℕ
 sampleBlock = blockOf 0 sample
 
 -- n vans after the van v, each with 500 ml over a kilometre
-abbrev alike : ℕ → ℕ → List Record
+abbrev pub alike : ℕ → ℕ → List Record
 alike v zero = []
 alike v (suc n) = lawful (suc v) 5 1005 500 90001 ∷ alike (suc v) n
 
-abbrev fullBlock : List ℕ
+abbrev pub fullBlock : List ℕ
 fullBlock = blockOf 0 (alike 0 20)
 
 -- the state after a block, and the row that a block is answered
@@ -76,7 +76,7 @@ abbrev changed : ℕ → List ℕ → List ℕ → List ℕ
 changed at new block = let body = take at block ++ (new ++ drop (at + length new) (take 508 block)) in body ++ bytesOf 4 (checkOf body)
 
 -- the bytes of the sample, one by one and not made by `blockOf`
-abbrev sampleBytes : List ℕ
+abbrev pub sampleBytes : List ℕ
 sampleBytes =
     (0 ∷ 0 ∷ 0 ∷ 0 ∷ 3 ∷ 0 ∷ 0 ∷ 0 ∷ [])
     ++ ((1 ∷ 0 ∷ 0 ∷ 0 ∷ 0 ∷ 0 ∷ 0 ∷ 0 ∷ 232 ∷ 3 ∷ 0 ∷ 0 ∷ 244 ∷ 1 ∷ 0 ∷ 0 ∷ 144 ∷ 95 ∷ 1 ∷ 0 ∷ 0 ∷ 0 ∷ 0 ∷ 0 ∷ [])

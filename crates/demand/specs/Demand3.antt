@@ -1,6 +1,7 @@
--- Demand 3, whole: what holds of every division, and what holds of every list of calls from a fresh depot; proofs/Demand3 has its proof.
+-- Demand 3, whole: what holds of every division, of every list of calls from a fresh depot, and of every report; proofs/Demand3 has its proof.
 use Rattle.division.specs.Theorem.{Division}
 use Rattle.depot.specs.Demand.{CallsHold, RunsHold}
+use Rattle.reporting.specs.Demand.{ReportsHold}
 
 pub record Demand3 : Type 0 where
   -- no step fails its claim, step 32 is the exact quotient rounded once, and 7 and 8 never leave a division
@@ -9,3 +10,5 @@ pub record Demand3 : Type 0 where
   pub depot : CallsHold
   -- and the same of every run of the entries themselves
   pub entries : RunsHold
+  -- what the report of any input prints is what the book says, and its figures bracket the exact mean
+  pub reports : ReportsHold

@@ -1,2 +1,2 @@
-// No code. Demand 3 is said in specs/ and proved in proofs/, of the crates below; proofs/Known.antt has
-// the known values of blocks and depots.
+// No code. Demand 3 is said in specs/ and proved in proofs/, of the crates below; proofs/Known.antt and
+// proofs/KnownReports.antt have the known values of blocks, depots and reports.

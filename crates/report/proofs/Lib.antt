@@ -1,2 +1,2 @@
-pub mod Known
+-- The laws; each function's proof stands in the folder of its name.
 pub mod Laws

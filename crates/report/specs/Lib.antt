@@ -1,4 +1,2 @@
--- What a reader must believe of the program `report`: the text that it prints (Report). Program has the terms of its private contracts.
--- Definitions only; the laws stand in proofs/Laws.
-pub mod Report
+-- The terms of the program's private contracts. What it prints is defined in `reporting`.
 pub mod Program

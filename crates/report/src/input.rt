@@ -1,12 +1,12 @@
-// Reads standard input piece by piece.
+// Reads standard input.
 ghost use mathlib.Core.Path.{_≡_};
 ghost use lib.ListN.{length};
 ghost use Rattle.io.specs.Counts.{Counts};
 ghost use Rattle.report.specs.Program.{gotOf, bytesRead};
 use libc::STDIN_FILENO;
 
-// How many bytes a piece has, or that a read failed.
-pub enum Piece {
+// How many bytes were read, or that a read failed.
+pub enum Input {
     Read(usize),
     Failed,
 }
@@ -18,9 +18,9 @@ enum Got {
     Failed,
 }
 
-// Fills the buffer from its start. Only the end of the input makes a piece shorter than the buffer: a
-// read that brings less than was asked for is followed by another.
-pub fn read_piece(buffer: &mut [u8]) -> Piece
+// Fills the buffer from its start, until it is full or the input ends. A read that brings less than was
+// asked for is followed by another.
+pub fn read(buffer: &mut [u8]) -> Input
     ensures { λ r. ⌜ Counts (bytesRead r) (now (buffer .exit)) ⌝ }
 {
     let mut from = 0;
@@ -28,11 +28,11 @@ pub fn read_piece(buffer: &mut [u8]) -> Piece
         let answer = libc::read(STDIN_FILENO, &mut buffer[from..]);
         match got_of(answer, &buffer[from..]) {
             Got::Bytes(count) => from += count,
-            Got::End => return Piece::Read(from),
-            Got::Failed => return Piece::Failed,
+            Got::End => return Input::Read(from),
+            Got::Failed => return Input::Failed,
         }
     }
-    Piece::Read(from)
+    Input::Read(from)
 }
 
 // What a read with this room answered: a failure is never taken for the end of the input.

@@ -1,0 +1,80 @@
+-- Demand 3 of a report, proved: the state after the pieces that were taken is that of the book, so what is printed is what the book says.
+use mathlib.Core.Bool.{Bool, true, false, cond}
+use mathlib.Core.List.{List, [], _∷_, _++_, append-nil, append-assoc}
+use mathlib.Core.Option.{Option, none, some}
+use mathlib.Core.Path.{_≡_, refl, sym, subst, ap, _∙_}
+use Prim.Native.Nat.{ℕ, suc}
+use native.Mathlib.Nat.{pos-of-ne-zero}
+use native.Mathlib.Numerals.{add-one}
+use borrow.Author.Tests.{eqb-true, eqb-false}
+use lib.Dec.{eqb}
+use lib.ListN.{length, length-append}
+use Rattle.little_endian.specs.Bytes.{IsBytes}
+use Rattle.blocks.proofs.Laws.Lists.{All}
+use Rattle.numbers.specs.declared.task.Mode.the-variants.{Up, Down}
+use Rattle.depot.specs.Figures.{Figures, meanOf, given, refused, figuresBy}
+use Rattle.depot.specs.Depot.{fresh, loadOf, figuresOf}
+use Rattle.depot.specs.Book.{Book, vansOf, bookRow, addedBy, offered, movedCount, totalOf, vansFigures}
+use Rattle.depot.specs.declared.state.Depot.{Depot}
+use Rattle.depot.proofs.Demand.{figures-bracketed}
+use Rattle.depot.proofs.Laws.Reached.{stateOf, begun, IsReached, reached-empty, load-agrees, offered-reached, figures-agree}
+use Rattle.reporting.specs.Report.{closingBy, closingText, piecesOf, afterBlock, reportFrom, reportOf}
+use Rattle.reporting.specs.Demand.{bookFrom, bookOf, IsPrinted, some-moved, none-moved, one-refused, ReportsHold}
+use Rattle.reporting.proofs.Laws.Pieces.{pieces-bytes}
+
+-- ---- the end of the input
+
+closing : (book : Book) → IsReached book → bookOf book ≡ book → IsPrinted book (closingText (stateOf book))
+unfolding closingText closingBy vansFigures figuresBy stateOf
+closing book reached all = go (eqb moved 0) refl
+  where
+    moved : ℕ
+    moved = movedCount (vansOf book)
+
+    go : (t : Bool) → eqb moved 0 ≡ t → IsPrinted book (closingText (stateOf book))
+    go true e =
+        let is : figuresOf (stateOf book) ≡ refused 17 = figures-agree book reached ∙ rw e in
+        rw is (none-moved all (eqb-true moved 0 e))
+    go false e =
+        let low = meanOf Down (totalOf Down (vansOf book)) moved in
+        let high = meanOf Up (totalOf Up (vansOf book)) moved in
+        let of : vansFigures (vansOf book) ≡ given low high = rw e in
+        let is : figuresOf (stateOf book) ≡ given low high = figures-agree book reached ∙ of in
+        rw is (some-moved low high all (pos-of-ne-zero (eqb-false moved 0 e)) of (figures-bracketed book reached low high is))
+
+-- ---- piece by piece
+
+book-more : (start : Book) (pieces : List (List ℕ)) (piece : List ℕ) → bookFrom start (pieces ++ (piece ∷ [])) ≡ offered (bookFrom start pieces) piece
+unfolding bookFrom
+book-more start [] piece = refl
+book-more start (other ∷ pieces) piece = book-more (offered start other) pieces piece
+
+-- from a book of pieces that were all taken
+printed-from : (pieces : List (List ℕ)) (book : Book) → IsReached book → bookOf book ≡ book → All IsBytes pieces
+    → IsPrinted (book ++ pieces) (reportFrom (stateOf book) (length book) pieces)
+unfolding reportFrom afterBlock offered addedBy bookOf
+printed-from [] book reached all are = rw (append-nil book) (closing book reached all)
+printed-from (piece ∷ pieces) book reached all are =
+    rw (load-agrees book piece reached) (go (bookRow book piece) refl (λ next all-next. printed-from pieces (book ++ (piece ∷ [])) next all-next (are .1)))
+  where
+    taken : bookRow book piece ≡ none → offered book piece ≡ book ++ (piece ∷ [])
+    taken is = rw is
+
+    longer : length (book ++ (piece ∷ [])) ≡ suc (length book)
+    longer = length-append book (piece ∷ []) ∙ add-one (length book)
+
+    -- what the rest prints, where the piece is taken
+    Rest : Type 0
+    Rest = IsReached (book ++ (piece ∷ [])) → bookOf (book ++ (piece ∷ [])) ≡ book ++ (piece ∷ [])
+        → IsPrinted ((book ++ (piece ∷ [])) ++ pieces) (reportFrom (stateOf (book ++ (piece ∷ []))) (length (book ++ (piece ∷ []))) pieces)
+
+    go : (row : Option ℕ) → bookRow book piece ≡ row → Rest
+        → IsPrinted (book ++ (piece ∷ pieces)) (afterBlock row (length book) (reportFrom (stateOf (offered book piece)) (suc (length book)) pieces))
+    go none is rest =
+        rw (taken is, ← longer, ← append-assoc book (piece ∷ []) pieces)
+        (rest (rw (taken is) at (offered-reached book piece (are .0) reached)) (book-more [] book piece ∙ ap (λ (b : Book). offered b piece) all ∙ taken is))
+    go (some row) is rest = one-refused book piece pieces row refl all is
+
+pub reports-hold : ReportsHold
+unfolding ReportsHold reportOf bookOf bookFrom
+reports-hold input are = rw (← begun) (printed-from (piecesOf input) [] reached-empty refl (pieces-bytes input are))

@@ -1,0 +1,3 @@
+-- What is printed is what the book says (Demand), and the laws; each function's proof stands in the folder of its name.
+pub mod Laws
+pub mod Demand

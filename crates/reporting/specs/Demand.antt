@@ -1,0 +1,36 @@
+-- What demand 3 says of a report: what is printed is what the book of the input's blocks says; proofs/Demand has its proof.
+use mathlib.Core.Path.{_≡_}
+use mathlib.Core.List.{List, [], _∷_, _++_}
+use mathlib.Core.Option.{some}
+use Prim.Native.Nat.{ℕ, _≤_}
+use lib.ListN.{length}
+use Rattle.little_endian.specs.Bytes.{IsBytes}
+use Rattle.numbers.specs.declared.number.Number.{Number}
+use Rattle.depot.specs.Figures.{isParked, isOver, given}
+use Rattle.depot.specs.Book.{Book, vansOf, bookRow, offered, countBy, movedCount, exactMean, vansFigures}
+use Rattle.depot.specs.Demand.{IsBracket}
+use Rattle.reporting.specs.Report.{reportText, refusedBlockText, refusedCloseText, piecesOf, reportOf}
+
+-- the book of some pieces, offered one after the other; it holds all of them exactly when it is the list of them
+unfoldable pub bookFrom : Book → List (List ℕ) → Book
+bookFrom book [] = book
+bookFrom book (piece ∷ pieces) = bookFrom (offered book piece) pieces
+
+unfoldable pub bookOf : List (List ℕ) → Book
+bookOf pieces = bookFrom [] pieces
+
+-- what is printed for some pieces, by the book: one of three texts
+pub data IsPrinted (pieces : List (List ℕ)) : List ℕ → Type 0 where
+  -- all were taken and a van moved: the counts of the vans taken, and the figures, which bracket the exact mean
+  some-moved : (low high : Number) → bookOf pieces ≡ pieces → 1 ≤ movedCount (vansOf pieces) → vansFigures (vansOf pieces) ≡ given low high
+      → IsBracket (exactMean (vansOf pieces)) (movedCount (vansOf pieces)) low high
+      → IsPrinted pieces (reportText (movedCount (vansOf pieces)) (countBy isParked (vansOf pieces)) (countBy isOver (vansOf pieces)) low high)
+  -- all were taken and no van moved
+  none-moved : bookOf pieces ≡ pieces → movedCount (vansOf pieces) ≡ 0 → IsPrinted pieces (refusedCloseText 17)
+  -- those before one were taken, and that one is refused by the row that applies to it
+  one-refused : (before : Book) (piece : List ℕ) (behind : List (List ℕ)) (row : ℕ) → pieces ≡ before ++ (piece ∷ behind) → bookOf before ≡ before
+      → bookRow before piece ≡ some row → IsPrinted pieces (refusedBlockText row (length before))
+
+-- of every input of bytes
+unfoldable pub ReportsHold : Type 0
+ReportsHold = (input : List ℕ) → IsBytes input → IsPrinted (piecesOf input) (reportOf input)

@@ -1,9 +1,9 @@
 -- Demand 3 of a report, proved: the state after the pieces that were taken is that of the book, so what is printed is what the book says.
-use mathlib.Core.Bool.{Bool, true, false, cond}
+use mathlib.Core.Bool.{Bool, true, false}
 use mathlib.Core.List.{List, [], _∷_, _++_, append-nil, append-assoc}
 use mathlib.Core.Option.{Option, none, some}
-use mathlib.Core.Path.{_≡_, refl, sym, subst, ap, _∙_}
-use Prim.Native.Nat.{ℕ, suc}
+use mathlib.Core.Path.{_≡_, refl, ap, _∙_}
+use Prim.Native.Nat.{ℕ, suc, _≤_}
 use native.Mathlib.Nat.{pos-of-ne-zero}
 use native.Mathlib.Numerals.{add-one}
 use borrow.Author.Tests.{eqb-true, eqb-false}
@@ -11,18 +11,27 @@ use lib.Dec.{eqb}
 use lib.ListN.{length, length-append}
 use Rattle.little_endian.specs.Bytes.{IsBytes}
 use Rattle.blocks.proofs.Laws.Lists.{All}
+use Rattle.numbers.specs.Fraction.{value, quotient}
+use Rattle.numbers.specs.declared.number.Number.{Number}
+use Rattle.numbers.specs.declared.task.Mode.{Mode}
 use Rattle.numbers.specs.declared.task.Mode.the-variants.{Up, Down}
-use Rattle.depot.specs.Figures.{Figures, meanOf, given, refused, figuresBy}
-use Rattle.depot.specs.Depot.{fresh, loadOf, figuresOf}
+use Rattle.depot.specs.Figures.{whole, meanOf, given, refused, figuresBy}
+use Rattle.depot.specs.Depot.{isNegativeNumber, figuresOf}
 use Rattle.depot.specs.Book.{Book, vansOf, bookRow, addedBy, offered, movedCount, totalOf, vansFigures}
-use Rattle.depot.specs.declared.state.Depot.{Depot}
 use Rattle.depot.proofs.Demand.{figures-bracketed}
-use Rattle.depot.proofs.Laws.Reached.{stateOf, begun, IsReached, reached-empty, load-agrees, offered-reached, figures-agree}
+use Rattle.depot.proofs.Laws.Amounts.{part-amount}
+use Rattle.depot.proofs.Laws.Bracket.{IsSum, value-amount, round-sum}
+use Rattle.depot.proofs.Laws.Reached.{stateOf, begun, IsReached, reached-empty, sums-bracketed, load-agrees, offered-reached, figures-agree}
 use Rattle.reporting.specs.Report.{closingBy, closingText, piecesOf, afterBlock, reportFrom, reportOf}
 use Rattle.reporting.specs.Demand.{bookFrom, bookOf, IsPrinted, some-moved, none-moved, one-refused, ReportsHold}
 use Rattle.reporting.proofs.Laws.Pieces.{pieces-bytes}
 
 -- ---- the end of the input
+
+-- the mean of a sum is not negative
+not-negative : (mode : Mode) (total : Number) (n : ℕ) → 1 ≤ n → IsSum total → isNegativeNumber (meanOf mode total n) ≡ false
+unfolding meanOf
+not-negative mode total n h is = round-sum mode (quotient (value total) (whole n)) (part-amount (value total) n h (value-amount total is)) .plus
 
 closing : (book : Book) → IsReached book → bookOf book ≡ book → IsPrinted book (closingText (stateOf book))
 unfolding closingText closingBy vansFigures figuresBy stateOf
@@ -40,7 +49,9 @@ closing book reached all = go (eqb moved 0) refl
         let high = meanOf Up (totalOf Up (vansOf book)) moved in
         let of : vansFigures (vansOf book) ≡ given low high = rw e in
         let is : figuresOf (stateOf book) ≡ given low high = figures-agree book reached ∙ of in
-        rw is (some-moved low high all (pos-of-ne-zero (eqb-false moved 0 e)) of (figures-bracketed book reached low high is))
+        let moved-some = pos-of-ne-zero (eqb-false moved 0 e) in
+        let sums = sums-bracketed book reached in
+        rw is (some-moved low high all moved-some of (figures-bracketed book reached low high is) (not-negative Down _ moved moved-some (sums .low-sum)) (not-negative Up _ moved moved-some (sums .high-sum)))
 
 -- ---- piece by piece
 

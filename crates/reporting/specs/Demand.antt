@@ -1,5 +1,6 @@
 -- What demand 3 says of a report: what is printed is what the book of the input's blocks says; proofs/Demand has its proof.
 use mathlib.Core.Path.{_≡_}
+use mathlib.Core.Bool.{false}
 use mathlib.Core.List.{List, [], _∷_, _++_}
 use mathlib.Core.Option.{some}
 use Prim.Native.Nat.{ℕ, _≤_}
@@ -7,6 +8,7 @@ use lib.ListN.{length}
 use Rattle.little_endian.specs.Bytes.{IsBytes}
 use Rattle.numbers.specs.declared.number.Number.{Number}
 use Rattle.depot.specs.Figures.{isParked, isOver, given}
+use Rattle.depot.specs.Depot.{isNegativeNumber}
 use Rattle.depot.specs.Book.{Book, vansOf, bookRow, offered, countBy, movedCount, exactMean, vansFigures}
 use Rattle.depot.specs.Demand.{IsBracket}
 use Rattle.reporting.specs.Report.{reportText, refusedBlockText, refusedCloseText, piecesOf, reportOf}
@@ -21,9 +23,10 @@ bookOf pieces = bookFrom [] pieces
 
 -- what is printed for some pieces, by the book: one of three texts
 pub data IsPrinted (pieces : List (List ℕ)) : List ℕ → Type 0 where
-  -- all were taken and a van moved: the counts of the vans taken, and the figures, which bracket the exact mean
+  -- All were taken and a van moved: the counts of the vans taken, and the figures, which bracket the exact mean. Neither is negative, and a figure is printed
+  -- without a sign.
   some-moved : (low high : Number) → bookOf pieces ≡ pieces → 1 ≤ movedCount (vansOf pieces) → vansFigures (vansOf pieces) ≡ given low high
-      → IsBracket (exactMean (vansOf pieces)) (movedCount (vansOf pieces)) low high
+      → IsBracket (exactMean (vansOf pieces)) (movedCount (vansOf pieces)) low high → isNegativeNumber low ≡ false → isNegativeNumber high ≡ false
       → IsPrinted pieces (reportText (movedCount (vansOf pieces)) (countBy isParked (vansOf pieces)) (countBy isOver (vansOf pieces)) low high)
   -- all were taken and no van moved
   none-moved : bookOf pieces ≡ pieces → movedCount (vansOf pieces) ≡ 0 → IsPrinted pieces (refusedCloseText 17)

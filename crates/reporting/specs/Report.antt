@@ -1,9 +1,7 @@
 -- Document 01, "Known values": what the report program prints, as lists of ASCII codes: the lines, and which of them an input gives.
-use mathlib.Core.Bool.{cond}
 use mathlib.Core.List.{List, [], _∷_, _++_}
 use mathlib.Core.Option.{Option, none, some}
 use Prim.Native.Nat.{ℕ, zero, suc}
-use lib.Dec.{eqb}
 use lib.ListN.{length, take, drop}
 use Rattle.numbers.specs.declared.number.Number.{Number}
 use Rattle.depot.specs.Figures.{Figures, given, refused}

@@ -1,6 +1,6 @@
 -- `reporting::report::report_of` meets its contract. The invariant: the state so far and the pieces that are left print what the input prints.
 use mathlib.Core.List.{List}
-use mathlib.Core.Path.{_≡_, refl, ap, _∙_}
+use mathlib.Core.Path.{_≡_, ap, _∙_}
 use Prim.Native.Nat.{ℕ, min, _+_, _-_, _≤_, _<_}
 use native.Mathlib.Omega.{arith}
 use lib.ListN.{length, drop, length-drop}
@@ -72,7 +72,7 @@ refused-block-requires : tie.Need-refused-block-requires Inv-loop μ-loop
 refused-block-requires c κs = search needs
 
 returns : tie.Need-returns Inv-loop μ-loop
-returns c = 
+returns c =
     let loop = c .before .before .before .before .before .before .before .before .before in
     c .refused-block .ensures
     ∙ after-refused _ _ _ _ (c .before .before .before .before .before .before .before .before .loop-test .taken) (ap (λ (n : ℕ). loop .loop .from + n) (c .before .before .before .before .before .before .before .piece-length .ensures)) _ (c .before .before .before .before .before .load .ensures) _ (c .before .before .before .before .verdict-of .ensures) _ (c .before .before .row .given .1)
@@ -82,12 +82,12 @@ loop-less : tie.Need-loop-less Inv-loop μ-loop
 loop-less c = let step = passed _ _ _ (c .before .before .before .before .before .before .before .loop-test .taken) (c .before .before .before .before .before .before .piece-length .ensures) in omega arith
 
 loop-again : tie.Need-loop-again Inv-loop μ-loop
-loop-again c = 
+loop-again c =
     let loop = c .before .before .before .before .before .before .before .before in
     let step = passed _ _ _ (c .before .before .before .before .before .before .before .loop-test .taken) (c .before .before .before .before .before .before .piece-length .ensures) in (
       step .1,
       after-taken _ _ _ _ (c .before .before .before .before .before .before .before .loop-test .taken) (ap (λ (n : ℕ). loop .loop .from + n) (c .before .before .before .before .before .before .piece-length .ensures)) _ (c .before .before .before .before .load .ensures) _ (c .before .before .before .verdict-of .ensures) (c .before .enum-told .given .1)
-      ∙ loop .loop .inv .1,
+          ∙ loop .loop .inv .1,
     )
 
 closing-requires : tie.Need-closing-requires Inv-loop μ-loop

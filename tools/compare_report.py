@@ -4,18 +4,20 @@
 
 FOLDER holds the reference model and its maker of blocks, model.py, requests.py and make_blocks.py;
 PROGRAM is the built program, target/bin/report after `rt check report`.  Sound and damaged inputs
-are given whole and, some of them, in small pieces; then come a read that fails and a write that
-fails.  Prints each difference, and how many inputs and how many differences there were.  The same
+are given whole and, some of them, in small pieces; then come reads that fail, an input that does
+not end, and writes that fail.  Prints each difference, and how many inputs and how many differences there were.  The same
 inputs come out of every run.
 """
 
 from __future__ import annotations
 
 import os
+import pty
 import random
 import subprocess
 import sys
 import time
+import tty
 from collections.abc import Iterator
 
 if len(sys.argv) != 3:
@@ -46,6 +48,9 @@ def inputs() -> Iterator[tuple[str, bytes]]:
     for length in range(513):
         yield f"a block cut to {length} bytes", block[:length]
         yield f"{length} zeros", bytes(length)
+    month = made(1, 4096, "mixed", "none")[1]
+    for more in (b"\0", month[:512], month, 3 * month):
+        yield f"4096 vans and {len(more)} bytes more", month + more
 
 
 def made(seed: int, vans: int, style: str, damage: str) -> tuple[str, bytes]:
@@ -84,6 +89,17 @@ def with_redirection(words: str) -> tuple[bytes, bytes]:
     return run.stdout, run.stderr
 
 
+def cut_off(data: bytes) -> tuple[bytes, bytes]:
+    """The same where the read behind these bytes fails: the other end of a terminal is gone."""
+    reader, writer = pty.openpty()
+    tty.setraw(writer)
+    os.write(writer, data)
+    os.close(writer)
+    run = subprocess.run([PROGRAM], stdin=reader, capture_output=True, timeout=SECONDS)
+    os.close(reader)
+    return run.stdout, run.stderr
+
+
 class Comparison:
     """How many inputs were given, and on how many the program wrote something else."""
 
@@ -105,10 +121,14 @@ def main() -> None:
         comparison.expect(name, whole(data), wanted)
         if name.startswith(("seed 1, 50 vans, mixed", "seed 1, 100 vans, extreme")):
             comparison.expect(name + ", in small pieces", in_small_pieces(data), wanted)
-    comparison.expect("a closed input", with_redirection("<&-"),
-                      (b"", b"report: cannot read standard input\n"))
-    comparison.expect("a folder as input", with_redirection("</"),
-                      (b"", b"report: cannot read standard input\n"))
+    unread = b"", b"report: cannot read standard input\n"
+    comparison.expect("a closed input", with_redirection("<&-"), unread)
+    comparison.expect("a folder as input", with_redirection("</"), unread)
+    block = make_blocks.make_pieces(1, 5, "mixed", "none", EDITION)[0]
+    for data in (block[:100], block, block + block):
+        comparison.expect(f"a read that fails after {len(data)} bytes", cut_off(data), unread)
+    comparison.expect("an endless input", with_redirection("</dev/zero"),
+                      (b"refused 14 block 0\n", b""))
     for words in ("</dev/null >/dev/full", "</dev/null >&-"):
         comparison.expect("an output that takes nothing: " + words, with_redirection(words),
                           (b"", b"report: cannot write to standard output\n"))

@@ -1,4 +1,5 @@
--- Demand 3, proved, and the known values of blocks and depots and of reports, computed.
+-- Demand 3, proved, that every list of calls has a run, and the known values of blocks and depots and of reports, computed.
 pub mod Demand3
+pub mod Runs
 pub mod Known
 pub mod KnownReports

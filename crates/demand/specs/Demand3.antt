@@ -1,4 +1,4 @@
--- Demand 3, whole: what holds of every division, of every list of calls from a fresh depot, and of every report; proofs/Demand3 has its proof.
+-- Demand 3, whole: what holds of every division and of every list of calls from a fresh depot, carried to every report; proofs/Demand3 has its proof.
 use Rattle.division.specs.Theorem.{Division}
 use Rattle.depot.specs.Demand.{CallsHold, RunsHold}
 use Rattle.reporting.specs.Demand.{ReportsHold}

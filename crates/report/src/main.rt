@@ -6,8 +6,8 @@ mod output;
 use input::Input;
 use reporting::report::report_of;
 
-// The bytes of 206 blocks. They decide the report of any input (`enough-read` of `reporting`), so no more are
-// read.
+// The bytes of 206 blocks, 206 × 512. They decide the report of any input (`enough-read` of `reporting`),
+// so no more are read.
 const DECIDING: usize = 105_472;
 
 fn main() {

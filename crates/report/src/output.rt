@@ -3,7 +3,7 @@ use libc::STDERR_FILENO;
 use libc::STDOUT_FILENO;
 use text::text::Text;
 
-// Writes the text to standard output in one piece, and tells standard error where that fails.
+// Writes the text to standard output by one call, and tells standard error where that fails.
 pub fn print(text: Text) {
     let bytes = text.bytes;
     let count = text.count();

@@ -18,13 +18,14 @@ use Rattle.numbers.specs.declared.task.Mode.the-variants.{Up, Down}
 use Rattle.depot.specs.Figures.{whole, meanOf, given, refused, figuresBy}
 use Rattle.depot.specs.Depot.{isNegativeNumber, figuresOf}
 use Rattle.depot.specs.Book.{Book, vansOf, bookRow, addedBy, offered, movedCount, totalOf, vansFigures}
+use Rattle.depot.specs.Calls.{Call, load, bookAfter}
 use Rattle.depot.proofs.Demand.{figures-bracketed}
 use Rattle.depot.proofs.Laws.Amounts.{part-amount}
 use Rattle.depot.proofs.Laws.Bracket.{IsSum, value-amount, round-sum}
 use Rattle.depot.proofs.Laws.Reached.{stateOf, begun, IsReached, reached-empty, sums-bracketed, load-agrees, offered-reached, figures-agree}
 use Rattle.reporting.specs.Report.{closingBy, closingText, piecesOf, afterBlock, reportFrom, reportOf}
 use Rattle.reporting.specs.Demand.{bookFrom, bookOf, IsPrinted, some-moved, none-moved, one-refused, ReportsHold}
-use Rattle.reporting.proofs.Laws.Pieces.{pieces-bytes}
+use Rattle.reporting.proofs.Laws.Pieces.{pieces-cut, pieces-bytes}
 
 -- ---- the end of the input
 
@@ -88,4 +89,15 @@ printed-from (piece ∷ pieces) book reached all are =
 
 pub reports-hold : ReportsHold
 unfolding ReportsHold reportOf bookOf bookFrom
-reports-hold input are = rw (← begun) (printed-from (piecesOf input) [] reached-empty refl (pieces-bytes input are))
+reports-hold input are = (pieces-cut input, rw (← begun) (printed-from (piecesOf input) [] reached-empty refl (pieces-bytes input are)))
+
+-- ---- the book of some pieces is that of the calls that offer them
+
+abbrev pub offers : (pieces : List (List ℕ)) → All IsBytes pieces → List Call
+offers [] are = []
+offers (piece ∷ pieces) are = load piece (are .0) ∷ offers pieces (are .1)
+
+pub book-of-calls : (pieces : List (List ℕ)) (are : All IsBytes pieces) (book : Book) → bookFrom book pieces ≡ bookAfter book (offers pieces are)
+unfolding bookFrom bookAfter
+book-of-calls [] are book = refl
+book-of-calls (piece ∷ pieces) are book = book-of-calls pieces (are .1) (offered book piece)

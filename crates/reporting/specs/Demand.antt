@@ -1,9 +1,9 @@
--- What demand 3 says of a report: what is printed is what the book of the input's blocks says; proofs/Demand has its proof.
+-- Demand 3 carried to a report: what is printed is what the book of the input's pieces says; proofs/Demand has its proof.
 use mathlib.Core.Path.{_≡_}
 use mathlib.Core.Bool.{false}
 use mathlib.Core.List.{List, [], _∷_, _++_}
 use mathlib.Core.Option.{some}
-use Prim.Native.Nat.{ℕ, _≤_}
+use Prim.Native.Nat.{ℕ, _≤_, _<_}
 use lib.ListN.{length}
 use Rattle.little_endian.specs.Bytes.{IsBytes}
 use Rattle.numbers.specs.declared.number.Number.{Number}
@@ -13,7 +13,13 @@ use Rattle.depot.specs.Book.{Book, vansOf, bookRow, offered, countBy, movedCoun
 use Rattle.depot.specs.Demand.{IsBracket}
 use Rattle.reporting.specs.Report.{reportText, refusedBlockText, refusedCloseText, piecesOf, reportOf}
 
--- the book of some pieces, offered one after the other; it holds all of them exactly when it is the list of them
+-- An input in its pieces: each has 512 bytes, but one at its end may have fewer, and none is empty.
+pub data AreCut : List ℕ → List (List ℕ) → Type 0 where
+  at-end : AreCut [] []
+  full : (piece : List ℕ) {rest : List ℕ} {pieces : List (List ℕ)} → length piece ≡ 512 → AreCut rest pieces → AreCut (piece ++ rest) (piece ∷ pieces)
+  short : (piece : List ℕ) → 1 ≤ length piece → length piece < 512 → AreCut piece (piece ∷ [])
+
+-- The book of some pieces, offered one after the other: `bookAfter` of these calls. It holds all of them exactly when it is the list of them.
 unfoldable pub bookFrom : Book → List (List ℕ) → Book
 bookFrom book [] = book
 bookFrom book (piece ∷ pieces) = bookFrom (offered book piece) pieces
@@ -36,4 +42,4 @@ pub data IsPrinted (pieces : List (List ℕ)) : List ℕ → Type 0 where
 
 -- of every input of bytes
 unfoldable pub ReportsHold : Type 0
-ReportsHold = (input : List ℕ) → IsBytes input → IsPrinted (piecesOf input) (reportOf input)
+ReportsHold = (input : List ℕ) → IsBytes input → AreCut input (piecesOf input) × IsPrinted (piecesOf input) (reportOf input)

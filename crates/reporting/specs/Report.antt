@@ -68,7 +68,8 @@ closingText s = closingBy s (figuresOf s)
 
 -- ---- the run
 
--- an input in its pieces: each has 512 bytes but the last, which may have fewer, and none is empty
+-- An input in its pieces: each has 512 bytes but the last, which may have fewer, and none is empty. `most` only bounds the recursion; as many as the input has
+-- bytes is enough.
 unfoldable pub piecesBy : ℕ → List ℕ → List (List ℕ)
 piecesBy zero input = []
 piecesBy (suc most) [] = []

@@ -1,5 +1,5 @@
 // What the report program prints, as a text made of the bytes of its input. What is public stands in
-// `report`.
+// the module `report`.
 mod lines;
 pub mod report;
 mod verdict;

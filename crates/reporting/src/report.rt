@@ -30,7 +30,7 @@ pub fn report_of(input: &[u8]) -> Text
     lines::closing(depot)
 }
 
-// How many bytes the next piece has, where so many are left.
+// How many bytes the next piece has, where `left` bytes are left.
 fn piece_length(left: usize) -> usize
     ensures { λ r. ⌜ r ≡ min 512 left ⌝ }
 {

@@ -1,4 +1,4 @@
--- `report::main` is safe and ends: what it reports on are the bytes that were read.
+-- `report::main` is safe and ends: as many bytes as were read lie in the buffer.
 use mathlib.Core.List.{List}
 use mathlib.Core.Path.{_≡_}
 use Prim.Native.Nat.{ℕ}

@@ -1,15 +1,17 @@
--- The pieces of an input: joined they are the input, and those behind a piece are the pieces of what is left behind it.
-use mathlib.Core.List.{List, [], _∷_, _++_}
-use mathlib.Core.Path.{_≡_, refl, ap, _∙_}
+-- The pieces of an input: how it is cut into them, and those behind a piece are the pieces of what is left behind it.
+use mathlib.Core.List.{List, [], _∷_}
+use mathlib.Core.Path.{_≡_, refl, subst, ap, _∙_}
 use Prim.Native.Nat.{ℕ, zero, suc, min, _+_, _-_, _≤_, _<_}
-use native.Mathlib.Nat.{le-refl, not-suc-le-zero}
+use native.Mathlib.Decide.{decLe}
+use native.Mathlib.Nat.{le-refl, lt-of-not-le, not-suc-le-zero}
 use native.Mathlib.Omega.{arith}
 use lib.ListN.{length, take, drop, length-take, length-drop, take-append-drop}
-use lib.Seq.{drop-drop, take-take}
+use lib.Seq.{length-take-le, take-all, take-take, drop-drop}
 use Rattle.little_endian.specs.Bytes.{IsBytes}
 use Rattle.little_endian.proofs.Laws.Bytes.{bytes-take, bytes-drop}
 use Rattle.blocks.proofs.Laws.Lists.{All, take-least, drop-least, take-drop}
 use Rattle.reporting.specs.Report.{piecesBy, piecesOf}
+use Rattle.reporting.specs.Demand.{AreCut, at-end, full, short}
 
 -- the count that runs out does not matter while it is at least the length
 enough : (m n : ℕ) (input : List ℕ) → length input ≤ m → length input ≤ n → piecesBy m input ≡ piecesBy n input
@@ -24,6 +26,15 @@ enough (suc m) (suc n) (b ∷ input) h k =
     let less = length-drop 512 (b ∷ input) in
     ap (λ (rest : List (List ℕ)). take 512 (b ∷ input) ∷ rest) (enough m n (drop 512 (b ∷ input)) (rw less (omega (arith, h))) (rw less (omega (arith, k))))
 
+no-bytes : (xs : List ℕ) → length xs ≡ 0 → xs ≡ []
+no-bytes [] e = refl
+no-bytes (x ∷ xs) e = absurd (not-suc-le-zero (let h : suc (length xs) ≤ 0 = omega (arith, e) in h))
+
+none-by : (most : ℕ) → piecesBy most [] ≡ []
+unfolding piecesBy
+none-by zero = refl
+none-by (suc most) = refl
+
 pub first-piece : (input : List ℕ) → 0 < length input → piecesOf input ≡ take 512 input ∷ piecesOf (drop 512 input)
 unfolding piecesOf piecesBy
 first-piece [] h = absurd (not-suc-le-zero h)
@@ -32,9 +43,8 @@ first-piece (b ∷ input) h =
     ap (λ (p : List (List ℕ)). take 512 (b ∷ input) ∷ p) (enough (length input) (length rest) rest (rw (length-drop 512 (b ∷ input)) (omega arith)) (le-refl (length rest)))
 
 pub no-piece : (input : List ℕ) → length input ≡ 0 → piecesOf input ≡ []
-unfolding piecesOf piecesBy
-no-piece [] e = refl
-no-piece (b ∷ input) e = absurd (let z : suc (length input) ≤ 0 = omega (arith, e) in not-suc-le-zero z)
+unfolding piecesOf
+no-piece input e = rw (no-bytes input e) (none-by 0)
 
 -- the pieces of what is left from a place on: the next one ends where as many bytes are passed as it has
 module _ (input : List ℕ) (from to : ℕ) (more : from < length input) (is : to ≡ from + min 512 (length input - from)) where
@@ -46,24 +56,29 @@ module _ (input : List ℕ) (from to : ℕ) (more : from < length input) (is : t
       rw (size, end, take-least 512 (drop from input), ← drop-drop (min 512 (length (drop from input))) from input, drop-least 512 (drop from input))
       (first-piece (drop from input) (rw left (omega arith)))
 
--- ---- the pieces joined, and their bytes
+-- ---- how an input is cut, and the bytes of its pieces
 
-abbrev pub joined : List (List ℕ) → List ℕ
-joined [] = []
-joined (piece ∷ pieces) = piece ++ joined pieces
-
-joined-by : (most : ℕ) (input : List ℕ) → length input ≤ most → joined (piecesBy most input) ≡ input
+cut-by : (most : ℕ) (input : List ℕ) → length input ≤ most → AreCut input (piecesBy most input)
 unfolding piecesBy
-joined-by zero [] h = refl
-joined-by zero (b ∷ input) h = absurd (not-suc-le-zero h)
-joined-by (suc most) [] h = refl
-joined-by (suc most) (b ∷ input) h =
-    ap (λ (rest : List ℕ). take 512 (b ∷ input) ++ rest) (joined-by most (drop 512 (b ∷ input)) (rw (length-drop 512 (b ∷ input)) (omega (arith, h))))
-    ∙ take-append-drop 512 (b ∷ input)
+cut-by zero [] h = at-end
+cut-by zero (b ∷ input) h = absurd (not-suc-le-zero h)
+cut-by (suc most) [] h = at-end
+cut-by (suc most) (b ∷ input) h =
+    go (decLe 512 (length (b ∷ input))) (cut-by most (drop 512 (b ∷ input)) (rw (length-drop 512 (b ∷ input)) (omega (arith, h))))
+  where
+    all : List ℕ
+    all = b ∷ input
 
-pub pieces-joined : (input : List ℕ) → joined (piecesOf input) ≡ input
+    go : Dec (512 ≤ length all) → AreCut (drop 512 all) (piecesBy most (drop 512 all)) → AreCut all (take 512 all ∷ piecesBy most (drop 512 all))
+    go (yes l) rest = subst (λ (x : List ℕ). AreCut x (take 512 all ∷ piecesBy most (drop 512 all))) (take-append-drop 512 all) (full (take 512 all) (length-take-le 512 all l) rest)
+    go (no l) rest =
+        let less : length all < 512 = lt-of-not-le l in
+        let nothing : drop 512 all ≡ [] = no-bytes (drop 512 all) (length-drop 512 all ∙ omega arith) in
+        rw (take-all 512 all (omega arith), nothing, none-by most) (short all (omega arith) less)
+
+pub pieces-cut : (input : List ℕ) → AreCut input (piecesOf input)
 unfolding piecesOf
-pieces-joined input = joined-by (length input) input (le-refl (length input))
+pieces-cut input = cut-by (length input) input (le-refl (length input))
 
 bytes-by : (most : ℕ) (input : List ℕ) → IsBytes input → All IsBytes (piecesBy most input)
 unfolding piecesBy

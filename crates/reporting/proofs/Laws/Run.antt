@@ -1,4 +1,4 @@
--- What is left to print after a piece. A piece that is taken is one of 205: the depot was open and fit, so it had taken fewer, and has then taken one more.
+-- What is left to print after a piece, and how many pieces decide it. A piece that is taken is one of 205: the depot was open and fit, so it had taken fewer, and has then taken one more.
 use mathlib.Core.List.{List, [], _∷_}
 use mathlib.Core.Option.{Option, none, some}
 use mathlib.Core.Path.{_≡_, refl, sym, ap, _∙_}

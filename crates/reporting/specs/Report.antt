@@ -7,56 +7,30 @@ use Rattle.numbers.specs.declared.number.Number.{Number}
 use Rattle.depot.specs.Figures.{Figures, given, refused}
 use Rattle.depot.specs.Depot.{fresh, loadOf, figuresOf}
 use Rattle.depot.specs.declared.state.Depot.{Depot}
-use Rattle.text.specs.Text.{decimalOf, figureText}
+use Rattle.text.specs.Text.{ascii, decimalOf, figureText}
 
 -- ---- the lines
 
--- `moved `, `parked `, `over `, `low ` and `high `
-unfoldable pub movedName : List ℕ
-movedName = 109 ∷ 111 ∷ 118 ∷ 101 ∷ 100 ∷ 32 ∷ []
-
-unfoldable pub parkedName : List ℕ
-parkedName = 112 ∷ 97 ∷ 114 ∷ 107 ∷ 101 ∷ 100 ∷ 32 ∷ []
-
-unfoldable pub overName : List ℕ
-overName = 111 ∷ 118 ∷ 101 ∷ 114 ∷ 32 ∷ []
-
-unfoldable pub lowName : List ℕ
-lowName = 108 ∷ 111 ∷ 119 ∷ 32 ∷ []
-
-unfoldable pub highName : List ℕ
-highName = 104 ∷ 105 ∷ 103 ∷ 104 ∷ 32 ∷ []
-
--- a line: a name with the space behind it, a value and the newline, 10
+-- a line: a name with the space behind it, a value and the newline
 unfoldable pub lineOf : List ℕ → List ℕ → List ℕ
-lineOf name value = name ++ (value ++ (10 ∷ []))
+lineOf name value = name ++ (value ++ ascii "\n")
 
 -- "it prints all of: moved .. parked .. over .. low .. high .." "Counts in decimal; S in sixteen hexadecimal digits, e in decimal"
 unfoldable pub reportText : ℕ → ℕ → ℕ → Number → Number → List ℕ
 reportText moved parked over low high =
-    lineOf movedName (decimalOf moved)
-    ++ (lineOf parkedName (decimalOf parked)
-    ++ (lineOf overName (decimalOf over)
-    ++ (lineOf lowName (figureText low)
-    ++ lineOf highName (figureText high))))
-
--- `refused `, ` block ` and ` close`
-unfoldable pub refusedName : List ℕ
-refusedName = 114 ∷ 101 ∷ 102 ∷ 117 ∷ 115 ∷ 101 ∷ 100 ∷ 32 ∷ []
-
-unfoldable pub blockName : List ℕ
-blockName = 32 ∷ 98 ∷ 108 ∷ 111 ∷ 99 ∷ 107 ∷ 32 ∷ []
-
-unfoldable pub closeName : List ℕ
-closeName = 32 ∷ 99 ∷ 108 ∷ 111 ∷ 115 ∷ 101 ∷ []
+    lineOf (ascii "moved ") (decimalOf moved)
+    ++ (lineOf (ascii "parked ") (decimalOf parked)
+    ++ (lineOf (ascii "over ") (decimalOf over)
+    ++ (lineOf (ascii "low ") (figureText low)
+    ++ lineOf (ascii "high ") (figureText high))))
 
 -- "only `refused K block B` is printed, B being its position in the input from 0, decimal"
 unfoldable pub refusedBlockText : ℕ → ℕ → List ℕ
-refusedBlockText row position = lineOf refusedName (decimalOf row ++ (blockName ++ decimalOf position))
+refusedBlockText row position = lineOf (ascii "refused ") (decimalOf row ++ (ascii " block " ++ decimalOf position))
 
 -- "At the end a refusal prints only `refused 17 close`." The row is the one that refuses figures.
 unfoldable pub refusedCloseText : ℕ → List ℕ
-refusedCloseText row = lineOf refusedName (decimalOf row ++ closeName)
+refusedCloseText row = lineOf (ascii "refused ") (decimalOf row ++ ascii " close")
 
 -- what is printed at the end of the input, by what asking for figures answers
 unfoldable pub closingBy : Depot → Figures → List ℕ

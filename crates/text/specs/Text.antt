@@ -1,7 +1,10 @@
 -- Document 01, "Known values": how counts and figures are printed, as lists of ASCII codes. A text is the struct `Text` of src/text.rt.
 use mathlib.Core.Bool.{cond}
 use mathlib.Core.List.{List, [], _∷_, _++_}
+use Prim.Native.Char.{code}
 use Prim.Native.Nat.{ℕ, zero, suc, _+_, _/_, _%_}
+use Prim.Native.String.{String}
+use Prim.Native.String as string
 use lib.Dec.{ltb}
 use lib.IntN.{ℤ, pos, negsuc}
 use lib.ListN.{take}
@@ -21,6 +24,11 @@ capacity = 192
 unfoldable pub cut : List ℕ → List ℕ
 cut bytes = take capacity bytes
 
+-- the codes of some ASCII characters
+unfoldable pub ascii : String → List ℕ
+ascii string.[] = []
+ascii (string._∷_ c text) = code c ∷ ascii text
+
 -- "Counts in decimal": a whole number with no zeros in front, in at most `most` digits
 unfoldable pub decimalBy : ℕ → ℕ → List ℕ
 decimalBy zero n = []
@@ -34,13 +42,13 @@ decimalOf n = decimalBy 20 n
 unfoldable pub sixteenDigits : ℕ → List ℕ
 sixteenDigits n = digits 16 16 n
 
--- "e in decimal", with a minus, 45, before it where it is negative
+-- "e in decimal", with a minus before it where it is negative
 unfoldable pub integerText : ℤ → List ℕ
 integerText (pos n) = decimalOf n
-integerText (negsuc n) = 45 ∷ decimalOf (n + 1)
+integerText (negsuc n) = ascii "-" ++ decimalOf (n + 1)
 
--- "S in sixteen hexadecimal digits, e in decimal; `low zero` or `high zero` for zero." A space, 32, stands between them, and 122 101 114 111 is `zero`.
--- A figure is never negative, and the lines of the document show no sign.
+-- "S in sixteen hexadecimal digits, e in decimal; `low zero` or `high zero` for zero." A figure is never negative, and the lines of the document
+-- show no sign.
 unfoldable pub figureText : Number → List ℕ
-figureText Zero = 122 ∷ 101 ∷ 114 ∷ 111 ∷ []
-figureText (Finite negative e S) = sixteenDigits S ++ 32 ∷ integerText e
+figureText Zero = ascii "zero"
+figureText (Finite negative e S) = sixteenDigits S ++ (ascii " " ++ integerText e)

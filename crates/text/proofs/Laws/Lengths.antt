@@ -10,7 +10,7 @@ use lib.ListN.{length, length-append}
 use Rattle.io.specs.Digits.{glyph, digits}
 use Rattle.numbers.specs.declared.number.Number.{Number}
 use Rattle.numbers.specs.declared.number.Number.the-variants.{Zero, Finite}
-use Rattle.text.specs.Text.{decimalBy, decimalOf, sixteenDigits, integerText, figureText}
+use Rattle.text.specs.Text.{ascii, decimalBy, decimalOf, sixteenDigits, integerText, figureText}
 
 by-most : (most n : ℕ) → length (decimalBy most n) ≤ most
 unfolding decimalBy
@@ -30,11 +30,11 @@ digits-length b zero n = omega arith
 digits-length b (suc k) n = rw (length-append (digits b k (n / b)) (glyph (n % b) ∷ [])) (omega (arith, digits-length b k (n / b)))
 
 integer-length : (z : ℤ) → length (integerText z) ≤ 21
-unfolding integerText
+unfolding integerText ascii
 integer-length (pos n) = omega (arith, decimal-length n)
 integer-length (negsuc n) = omega (arith, decimal-length (n + 1))
 
 pub figure-length : (x : Number) → length (figureText x) ≤ 38
-unfolding figureText sixteenDigits
+unfolding figureText sixteenDigits ascii
 figure-length Zero = lit≤ tt
-figure-length (Finite negative e S) = rw (length-append (digits 16 16 S) (32 ∷ integerText e), digits-length 16 16 S) (omega (arith, integer-length e))
+figure-length (Finite negative e S) = rw (length-append (digits 16 16 S) (ascii " " ++ integerText e), digits-length 16 16 S) (omega (arith, integer-length e))

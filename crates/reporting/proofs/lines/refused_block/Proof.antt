@@ -1,6 +1,6 @@
 -- `reporting::lines::refused_block` meets its contract: the text is that of the definition, and has room.
 use borrow.Author.Needs.{needs}
-use Rattle.reporting.specs.Report.{refusedName, blockName}
+use Rattle.text.specs.Text.{ascii}
 use Rattle.reporting.proofs.Laws.Lines.{refused-block-written}
 use Rattle.reporting.proofs.lines.refused_block.Statement.{statement}
 use Rattle.reporting.proofs.lines.refused_block.Tie as tie
@@ -33,7 +33,7 @@ with-bytes-requires-3 : tie.Need-with-bytes-requires-3
 with-bytes-requires-3 c κs = search needs
 
 returns : tie.Need-returns
-unfolding refusedName blockName
+unfolding ascii
 returns c =
     let start = c .before .before .before .before .before .before .before .before .before .args in
     refused-block-written (start .row) (start .position) (c .before .before .before .before .before .before .before .before .empty .ensures) (c .before .before .before .before .before .before .with-bytes .ensures) (c .before .before .before .before .before .with-decimal .ensures) (c .before .before .before .with-bytes2 .ensures) (c .before .before .with-decimal2 .ensures) (c .with-bytes3 .ensures)

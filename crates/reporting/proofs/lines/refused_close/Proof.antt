@@ -1,6 +1,6 @@
 -- `reporting::lines::refused_close` meets its contract: the text is that of the definition, and has room.
 use borrow.Author.Needs.{needs}
-use Rattle.reporting.specs.Report.{refusedName, closeName}
+use Rattle.text.specs.Text.{ascii}
 use Rattle.reporting.proofs.Laws.Lines.{refused-close-written}
 use Rattle.reporting.proofs.lines.refused_close.Statement.{statement}
 use Rattle.reporting.proofs.lines.refused_close.Tie as tie
@@ -24,7 +24,7 @@ with-bytes-requires-2 : tie.Need-with-bytes-requires-2
 with-bytes-requires-2 c κs = search needs
 
 returns : tie.Need-returns
-unfolding refusedName closeName
+unfolding ascii
 returns c = refused-close-written (c .before .before .before .before .before .before .args .row) (c .before .before .before .before .before .empty .ensures) (c .before .before .before .with-bytes .ensures) (c .before .before .with-decimal .ensures) (c .with-bytes2 .ensures)
 
 pub refused-close-spec : {M : Type 1} → statement M

@@ -1,6 +1,6 @@
 -- `reporting::lines::report` meets its contract: the five lines are those of the definition, and have room.
 use borrow.Author.Needs.{needs}
-use Rattle.reporting.specs.Report.{movedName, parkedName, overName, lowName, highName}
+use Rattle.text.specs.Text.{ascii}
 use Rattle.reporting.proofs.Laws.Lines.{report-written}
 use Rattle.reporting.proofs.lines.report.Statement.{statement}
 use Rattle.reporting.proofs.lines.report.Tie as tie
@@ -39,7 +39,7 @@ with-figure-requires-2 : tie.Need-with-figure-requires-2
 with-figure-requires-2 c κs = search needs
 
 returns : tie.Need-returns
-unfolding movedName parkedName overName lowName highName
+unfolding ascii
 returns c =
     let start = c .before .before .before .before .before .before .before .before .before .before .before .args in
     report-written (start .depot .moved) (start .depot .parked) (start .depot .over) (start .low) (start .high) (c .before .before .before .before .before .before .before .before .before .before .empty .ensures) (c .before .before .before .before .before .before .before .before .with-count .ensures) (c .before .before .before .before .before .before .with-count2 .ensures) (c .before .before .before .before .with-count3 .ensures) (c .before .before .with-figure .ensures) (c .with-figure2 .ensures)

@@ -1,6 +1,6 @@
 -- `text::text::Text::with_figure` meets its contract: `zero`, or the significand, a space and the exponent.
 use mathlib.Core.Bool.{Bool}
-use mathlib.Core.List.{List, [], _∷_, _++_, append-assoc}
+use mathlib.Core.List.{List, _++_, append-assoc}
 use mathlib.Core.Path.{_≡_}
 use Prim.Native.Nat.{ℕ}
 use lib.IntN.{ℤ}
@@ -10,22 +10,22 @@ use mir.Syntax.{w32}
 use mir.Val.{SFits}
 use Rattle.numbers.specs.declared.number.Number.{Number}
 use Rattle.numbers.specs.declared.number.Number.the-variants.{Zero, Finite}
-use Rattle.text.specs.Text.{textOf, cut, sixteenDigits, integerText, figureText}
+use Rattle.text.specs.Text.{textOf, ascii, cut, sixteenDigits, integerText, figureText}
 use Rattle.text.proofs.Laws.Cut.{both}
 use Rattle.text.proofs.text.Text.with_figure.Statement.{statement}
 use Rattle.text.proofs.text.Text.with_figure.Tie as tie
 
 -- the text before, and after each addition
 module _ (t : List ℕ) (x : Number) where
-  zero-text : {a : List ℕ} → x ≡ Zero → a ≡ cut (t ++ (122 ∷ 101 ∷ 114 ∷ 111 ∷ [])) → a ≡ cut (t ++ figureText x)
+  zero-text : {a : List ℕ} → x ≡ Zero → a ≡ cut (t ++ ascii "zero") → a ≡ cut (t ++ figureText x)
   unfolding figureText
   zero-text is p = rw is p
 
   finite-text : {a b d : List ℕ} (s : Bool) (e : ℤ) (S : ℕ) → x ≡ Finite s e S
-      → a ≡ cut (t ++ sixteenDigits S) → b ≡ cut (a ++ (32 ∷ [])) → d ≡ cut (b ++ integerText e) → d ≡ cut (t ++ figureText x)
+      → a ≡ cut (t ++ sixteenDigits S) → b ≡ cut (a ++ ascii " ") → d ≡ cut (b ++ integerText e) → d ≡ cut (t ++ figureText x)
   unfolding figureText
   finite-text s e S is p q r =
-      rw (is, ← append-assoc (sixteenDigits S) (32 ∷ []) (integerText e)) (both t (sixteenDigits S ++ (32 ∷ [])) (integerText e) (both t (sixteenDigits S) (32 ∷ []) p q) r)
+      rw (is, ← append-assoc (sixteenDigits S) (ascii " ") (integerText e)) (both t (sixteenDigits S ++ (ascii " ")) (integerText e) (both t (sixteenDigits S) (ascii " ") p q) r)
 
 enum-told : tie.Need-enum-told
 enum-told c = search needs
@@ -52,9 +52,11 @@ with-integer-requires : tie.Need-with-integer-requires
 with-integer-requires c κs = search needs
 
 returns : tie.Need-returns
+unfolding ascii
 returns c = zero-text (textOf (c .before .before .before .before .args .self)) _ (c .before .before .enum-told .given .1) (c .with-bytes .ensures)
 
 returns-2 : tie.Need-returns-2
+unfolding ascii
 returns-2 c =
     let known = c .before .before .before .before in
     let v = known .before .x .given in

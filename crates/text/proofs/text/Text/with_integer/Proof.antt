@@ -1,9 +1,8 @@
 -- `text::text::Text::with_integer` meets its contract: a minus and the complement with one more, or the magnitude.
-use mathlib.Core.List.{[], _∷_}
 use Prim.Native.Nat.{_+_}
 use native.Mathlib.Omega.{arith}
 use borrow.Author.Needs.{needs}
-use Rattle.text.specs.Text.{textOf, decimalOf, integerText}
+use Rattle.text.specs.Text.{textOf, ascii, decimalOf, integerText}
 use Rattle.text.proofs.Laws.Cut.{both}
 use Rattle.text.proofs.Laws.Signed.{negative, natural}
 use Rattle.text.proofs.text.Text.with_integer.Statement.{statement}
@@ -25,11 +24,11 @@ with-decimal-requires : tie.Need-with-decimal-requires
 with-decimal-requires c κs = search needs
 
 returns : tie.Need-returns
-unfolding integerText
+unfolding integerText ascii
 returns c =
     let start = c .before .before .before .before in
     let x = negative (start .args .x) (start .fits .x) (c .before .before .before .if1 .taken) in
-    rw (x .whole) (both (textOf (start .args .self)) (45 ∷ []) (decimalOf (x .below + 1)) (c .before .with-bytes .ensures) (rw (x .complement) at (c .with-decimal .ensures)))
+    rw (x .whole) (both (textOf (start .args .self)) (ascii "-") (decimalOf (x .below + 1)) (c .before .with-bytes .ensures) (rw (x .complement) at (c .with-decimal .ensures)))
 
 cast-with-decimal-2 : tie.Need-cast-with-decimal-2
 cast-with-decimal-2 c = let x = natural (c .before .args .x) (c .before .fits .x) (c .if1 .left) in rw (x .itself) (tt, omega arith)

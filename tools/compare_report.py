@@ -4,9 +4,9 @@
 
 FOLDER holds the reference model and its maker of blocks, model.py, requests.py and make_blocks.py;
 PROGRAM is the built program, target/bin/report after `rt check report`.  Sound and damaged inputs
-are given whole and, some of them, in small pieces; then come reads that fail, an input that does
-not end, and writes that fail.  Prints each difference, and how many inputs and how many differences there were.  The same
-inputs come out of every run.
+are given whole and, some of them, in small pieces; then come reads that fail, inputs that do not
+end, and writes that fail.  Prints each difference, and how many inputs and how many differences
+there were.  The same inputs come out of every run.
 """
 
 from __future__ import annotations
@@ -100,6 +100,16 @@ def cut_off(data: bytes) -> tuple[bytes, bytes]:
     return run.stdout, run.stderr
 
 
+def held_open(data: bytes) -> tuple[bytes, bytes]:
+    """The same where nothing follows these bytes and the input does not end."""
+    run = subprocess.Popen([PROGRAM], stdin=subprocess.PIPE, stdout=subprocess.PIPE,
+                           stderr=subprocess.PIPE)
+    run.stdin.write(data)
+    run.stdin.flush()
+    run.wait(timeout=SECONDS)
+    return run.communicate()
+
+
 class Comparison:
     """How many inputs were given, and on how many the program wrote something else."""
 
@@ -125,8 +135,12 @@ def main() -> None:
     comparison.expect("a closed input", with_redirection("<&-"), unread)
     comparison.expect("a folder as input", with_redirection("</"), unread)
     block = make_blocks.make_pieces(1, 5, "mixed", "none", EDITION)[0]
-    for data in (block[:100], block, block + block):
+    for data in (b"", block[:100], block):
         comparison.expect(f"a read that fails after {len(data)} bytes", cut_off(data), unread)
+    comparison.expect("a read that would fail behind a refused block", cut_off(block + block),
+                      (b"refused 13 block 1\n", b""))
+    comparison.expect("an input that is held open behind a refused block",
+                      held_open(bytes(512)), (b"refused 14 block 0\n", b""))
     comparison.expect("an endless input", with_redirection("</dev/zero"),
                       (b"refused 14 block 0\n", b""))
     for words in ("</dev/null >/dev/full", "</dev/null >&-"):

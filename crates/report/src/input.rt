@@ -3,6 +3,9 @@ ghost use mathlib.Core.Path.{_≡_};
 ghost use lib.ListN.{length};
 ghost use Rattle.io.specs.Counts.{Counts};
 ghost use Rattle.report.specs.Program.{gotOf, bytesRead};
+use blocks::judgement::BLOCK_BYTES;
+use depot::load::Loading;
+use depot::state::Depot;
 use libc::STDIN_FILENO;
 
 // How many bytes were read, or that a read failed.
@@ -18,9 +21,32 @@ enum Got {
     Failed,
 }
 
+// Reads block by block into the buffer, and ends behind the first piece that a depot does not take: a
+// block that is refused, or the end of the input, at which a piece is short or empty.
+pub fn read_blocks(buffer: &mut [u8]) -> Input
+    ensures { λ r. ⌜ Counts (bytesRead r) (now (buffer .exit)) ⌝ }
+{
+    let mut depot = Depot::fresh();
+    let mut from = 0;
+    while buffer.len() - from >= BLOCK_BYTES {
+        let Input::Read(size) = read(&mut buffer[from..from + BLOCK_BYTES]) else {
+            return Input::Failed;
+        };
+        let to = from + size;
+        let load = depot.load(&buffer[from..to]);
+        let answer = load.answer;
+        let Loading::Taken = answer else {
+            return Input::Read(to);
+        };
+        depot = load.depot;
+        from = to;
+    }
+    Input::Read(from)
+}
+
 // Fills the buffer from its start, until it is full or the input ends. A read that brings less than was
 // asked for is followed by another.
-pub fn read(buffer: &mut [u8]) -> Input
+fn read(buffer: &mut [u8]) -> Input
     ensures { λ r. ⌜ Counts (bytesRead r) (now (buffer .exit)) ⌝ }
 {
     let mut from = 0;

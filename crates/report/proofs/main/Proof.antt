@@ -14,11 +14,11 @@ counted : (i : Input) (count : ℕ) (buffer : List ℕ) → i ≡ Read count →
 unfolding bytesRead
 counted i count buffer is h = rw is at h
 
-slice-aggregate-read : tie.Need-slice-aggregate-read
-slice-aggregate-read c = search needs
+slice-aggregate-read-blocks : tie.Need-slice-aggregate-read-blocks
+slice-aggregate-read-blocks c = search needs
 
-read-requires : tie.Need-read-requires
-read-requires c κs = search needs
+read-blocks-requires : tie.Need-read-blocks-requires
+read-blocks-requires c κs = search needs
 
 enum-known-count : tie.Need-enum-known-count
 enum-known-count c = search needs
@@ -36,10 +36,10 @@ returns : tie.Need-returns
 returns c = search needs
 
 array-share-prefix-buffer : tie.Need-array-share-prefix-buffer
-array-share-prefix-buffer c = counted _ _ _ (c .before .count .given .1) (c .before .before .before .before .read .ensures) .0
+array-share-prefix-buffer c = counted _ _ _ (c .before .count .given .1) (c .before .before .before .before .read-blocks .ensures) .0
 
 slice-aggregate-report-of : tie.Need-slice-aggregate-report-of
-slice-aggregate-report-of c = counted _ _ _ (c .before .before .count .given .1) (c .before .before .before .before .before .read .ensures) .1
+slice-aggregate-report-of c = counted _ _ _ (c .before .before .count .given .1) (c .before .before .before .before .before .read-blocks .ensures) .1
 
 report-of-requires : tie.Need-report-of-requires
 report-of-requires c κs = search needs
@@ -54,8 +54,8 @@ pub main-spec : {M : Type 1} → statement M
 main-spec =
     tie.close
     (tie.spec
-    slice-aggregate-read
-    read-requires
+    slice-aggregate-read-blocks
+    read-blocks-requires
     enum-known-count
     enum-told
     slice-aggregate-complain

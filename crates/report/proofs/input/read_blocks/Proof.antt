@@ -1,0 +1,151 @@
+-- `report::input::read_blocks` is safe, ends and counts bytes of the buffer: a piece that is taken has 512 bytes, so the measure is what is left of it.
+use mathlib.Core.List.{List}
+use mathlib.Core.Path.{_≡_, sym, _∙_}
+use Prim.Native.Nat.{ℕ, _+_, _-_, _≤_}
+use native.Mathlib.Omega.{arith}
+use lib.ListN.{length, take, drop, length-take, length-drop}
+use lib.Seq.{length-take-le}
+use borrow.Author.Needs.{needs}
+use Rattle.io.specs.Counts.{Counts}
+use Rattle.report.specs.Program.{bytesRead}
+use Rattle.report.specs.declared.input.Input.{Input}
+use Rattle.report.specs.declared.input.Input.the-variants.{Read}
+use Rattle.report.proofs.Laws.Taken.{taken-size}
+use Rattle.report.proofs.input.read_blocks.Statement.{statement}
+use Rattle.report.proofs.input.read_blocks.Tie as tie
+
+abbrev Inv-loop : tie.InvT-loop
+Inv-loop buffer₀ depot₀ from₀ buffer depot from = (from ≤ length buffer) × (length buffer ≡ length buffer₀)
+
+abbrev μ-loop : tie.MeasureT-loop
+μ-loop buffer₀ depot₀ from₀ buffer depot from = length buffer - from
+
+counts : (n : ℕ) (xs : List ℕ) → n ≤ length xs → Counts n xs
+counts n xs h = (h, sym (length-take-le n xs h))
+
+-- the piece that was read has room in the buffer
+passed : (from size : ℕ) (part buffer : List ℕ) (i : Input) → 512 ≤ length buffer - from → i ≡ Read size → Counts (bytesRead i) part
+    → length part ≡ length (take (from + 512 - from) (drop from buffer)) → from + size ≤ length buffer
+unfolding bytesRead
+passed from size part buffer i room is read-in e =
+    let h : size ≤ length part = (rw is at read-in) .0 in
+    omega (arith, h, e ∙ length-take (from + 512 - from) (drop from buffer), length-drop from buffer)
+
+end-of : (c : tie.After-size Inv-loop μ-loop) → let loop = c .before .before .before .before .before .before .before in loop .loop .from + c .size .given .0 .0 ≤ length (loop .loop .buffer)
+end-of c =
+    passed (c .before .before .before .before .before .before .before .loop .from) (c .size .given .0 .0) (c .before .before .before .before .read .last .0) (c .before .before .before .before .before .before .before .loop .buffer) (c .before .before .before .before .read .result) (c .before .before .before .before .before .before .loop-test .taken) (c .size .given .1)
+    (c .before .before .before .before .read .ensures) (c .before .before .before .buffer .given .0)
+
+-- a piece that is taken leads on
+size-is : (from size : ℕ) (whole : List ℕ) → from + size ≤ length whole → length (take (from + size - from) (drop from whole)) ≡ 512 → size ≡ 512
+size-is from size whole h e = omega (arith, sym (length-take (from + size - from) (drop from whole)) ∙ e, length-drop from whole)
+
+fresh-requires : tie.Need-fresh-requires Inv-loop μ-loop
+fresh-requires c κs = search needs
+
+loop-holds : tie.Need-loop-holds Inv-loop μ-loop
+loop-holds c = search needs
+
+sub-loop : tie.Need-sub-loop Inv-loop μ-loop
+sub-loop c = search needs
+
+add-read : tie.Need-add-read Inv-loop μ-loop
+add-read c = search needs
+
+sub-read : tie.Need-sub-read Inv-loop μ-loop
+sub-read c = search needs
+
+part-read-start : tie.Need-part-read-start Inv-loop μ-loop
+part-read-start c = search needs
+
+part-read-end : tie.Need-part-read-end Inv-loop μ-loop
+part-read-end c = search needs
+
+read-requires : tie.Need-read-requires Inv-loop μ-loop
+read-requires c κs = search needs
+
+enum-known-size : tie.Need-enum-known-size Inv-loop μ-loop
+enum-known-size c = search needs
+
+enum-told : tie.Need-enum-told Inv-loop μ-loop
+enum-told c = search needs
+
+same-length : tie.Need-same-length Inv-loop μ-loop
+same-length c = search needs
+
+returns : tie.Need-returns Inv-loop μ-loop
+unfolding bytesRead
+returns c = search needs
+
+add-to : tie.Need-add-to Inv-loop μ-loop
+add-to c = let end = end-of (c .before) in search needs
+
+sub-load : tie.Need-sub-load Inv-loop μ-loop
+sub-load c = search needs
+
+part-load-start : tie.Need-part-load-start Inv-loop μ-loop
+part-load-start c = search needs
+
+part-load-end : tie.Need-part-load-end Inv-loop μ-loop
+part-load-end c = let end = end-of (c .before .before) in search needs
+
+load-requires : tie.Need-load-requires Inv-loop μ-loop
+load-requires c κs = search needs
+
+enum-told-2 : tie.Need-enum-told-2 Inv-loop μ-loop
+enum-told-2 c = search needs
+
+same-length-2 : tie.Need-same-length-2 Inv-loop μ-loop
+same-length-2 c = search needs
+
+returns-2 : tie.Need-returns-2 Inv-loop μ-loop
+unfolding bytesRead
+returns-2 c = counts _ _ (let end = end-of (c .before .before .before .before .before) in omega (arith, end, c .before .before .before .before .before .before .before .before .buffer .given .1))
+
+loop-less : tie.Need-loop-less Inv-loop μ-loop
+loop-less c =
+    let end = end-of (c .before .before .before .before .before .before .before) in
+    let same = c .before .before .before .before .before .before .before .before .before .before .buffer .given .1 in
+    let full = size-is (c .before .before .before .before .before .before .before .before .before .before .before .before .before .before .loop .from) (c .before .before .before .before .before .before .before .size .given .0 .0) _ (rw same end) (taken-size _ _ _ (c .before .before .before .load .ensures) (c .before .enum-told2 .given .1)) in
+    omega (arith, end, full, same, c .before .before .before .before .before .before .before .before .before .before .before .before .before .loop-test .taken)
+
+loop-again : tie.Need-loop-again Inv-loop μ-loop
+loop-again c = let end = end-of (c .before .before .before .before .before .before .before) in let same = c .before .before .before .before .before .before .before .before .before .before .buffer .given .1 in (omega (arith, end, same), same ∙ c .before .before .before .before .before .before .before .before .before .before .before .before .before .before .loop .inv .1)
+
+same-length-3 : tie.Need-same-length-3 Inv-loop μ-loop
+same-length-3 c = search needs
+
+returns-3 : tie.Need-returns-3 Inv-loop μ-loop
+unfolding bytesRead
+returns-3 c = counts _ _ (search needs)
+
+pub read-blocks-spec : {M : Type 1} → statement M
+read-blocks-spec =
+    tie.close
+    (tie.spec
+    Inv-loop
+    μ-loop
+    fresh-requires
+    loop-holds
+    sub-loop
+    add-read
+    sub-read
+    part-read-start
+    part-read-end
+    read-requires
+    enum-known-size
+    enum-told
+    same-length
+    returns
+    add-to
+    sub-load
+    part-load-start
+    part-load-end
+    load-requires
+    enum-told-2
+    same-length-2
+    returns-2
+    loop-less
+    loop-again
+    same-length-3
+    returns-3)

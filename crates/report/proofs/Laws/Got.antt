@@ -1,12 +1,15 @@
--- What one read brought, by what it answered: the end of the input is told only at 0, and bytes that came have room.
+-- What one read brought, by what it answered: the end of the input is told only at 0, and bytes that came have room. As many bytes as have room are counted.
 use mathlib.Core.Bool.{true, false}
-use mathlib.Core.Path.{_≡_, refl, ap}
+use mathlib.Core.List.{List}
+use mathlib.Core.Path.{_≡_, refl, sym, ap}
 use Prim.Native.Nat.{ℕ, zero, suc, min, _≤_, _<_}
 use native.Mathlib.Omega.{arith}
 use borrow.Author.Tests.{ltb-true}
 use lib.IntN.{ℤ, pos, negsuc}
+use lib.ListN.{length}
+use lib.Seq.{length-take-le}
 use lib.Signed.{ltZ}
-use Rattle.io.specs.Counts.{clamped}
+use Rattle.io.specs.Counts.{Counts, clamped}
 use Rattle.report.specs.Program.{bytesOrEnd, gotOf}
 use Rattle.report.specs.declared.input.Got.the-variants.{Bytes, End, Failed}
 
@@ -38,3 +41,6 @@ came (pos n) room count e = go (min n room) refl e
     go zero least e = let z : _≡_ {A = ℕ} 0 1 = cc in absurd (omega arith)
     go (suc m) least e = let same : count ≡ suc m = cc in (omega arith, omega arith)
 came (negsuc n) room count e = let z : _≡_ {A = ℕ} 0 1 = cc in absurd (omega arith)
+
+pub counts : (n : ℕ) (xs : List ℕ) → n ≤ length xs → Counts n xs
+counts n xs h = (h, sym (length-take-le n xs h))

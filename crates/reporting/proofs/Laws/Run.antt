@@ -7,10 +7,10 @@ use native.Mathlib.Omega.{arith}
 use lib.ListN.{length, take, drop}
 use lib.Seq.{take-nil}
 use Rattle.blocks.specs.Block.{recordsOf}
-use Rattle.depot.specs.Depot.{fresh, withBlock, Loaded, loadRow, leftBy, loadOf, loadingRow, loaded}
+use Rattle.depot.specs.Depot.{fresh, withBlock, Loaded, loadOf, loadingRow, loaded}
 use Rattle.depot.specs.declared.load.Load.{Load}
 use Rattle.depot.specs.declared.state.Depot.{Depot}
-use Rattle.depot.proofs.Laws.Room.{load-none, blocks-few}
+use Rattle.depot.proofs.Laws.Room.{load-taken, blocks-few}
 use Rattle.depot.proofs.Laws.Vans.{records-more}
 use Rattle.reporting.specs.Report.{refusedBlockText, piecesOf, afterBlock, reportFrom, reportOf}
 use Rattle.reporting.specs.Verdict.{verdictRow}
@@ -29,12 +29,9 @@ record IsNext (s d : Depot) : Type 0 where
   more : d .blocks ≡ suc (s .blocks)
 
 next : (s : Depot) (block : List ℕ) → loadOf s block .refusal ≡ none → IsNext s (loadOf s block .depot)
-unfolding loadOf leftBy
-next s block e = go (loadRow s block) refl e
-  where
-    go : (row : Option ℕ) → loadRow s block ≡ row → leftBy row s block .refusal ≡ none → IsNext s (leftBy row s block .depot)
-    go none is e = record { few = blocks-few s block (load-none s block is); more = one-more s block }
-    go (some row) is e = absurd (let z : _≡_ {A = ℕ} 0 1 = cc in omega arith)
+next s block e =
+    let taken = load-taken s block e in
+    record { few = blocks-few s block (taken .0); more = ap (λ (d : Depot). d .blocks) (taken .1) ∙ one-more s block }
 
 -- ---- a piece that was loaded
 

@@ -1,18 +1,12 @@
 -- `report::input::read` is safe, ends and counts bytes of the buffer: the measure is what is left of it.
-use mathlib.Core.List.{List}
 use mathlib.Core.Path.{_≡_, sym, _∙_}
-use Prim.Native.Nat.{ℕ, _-_, _≤_}
+use Prim.Native.Nat.{_-_, _≤_}
 use lib.ListN.{length}
-use lib.Seq.{length-take-le}
 use borrow.Author.Needs.{needs}
-use Rattle.io.specs.Counts.{Counts}
 use Rattle.report.specs.Program.{bytesRead}
-use Rattle.report.proofs.Laws.Got.{came}
+use Rattle.report.proofs.Laws.Got.{came, counts}
 use Rattle.report.proofs.input.read.Statement.{statement}
 use Rattle.report.proofs.input.read.Tie as tie
-
-counts : (n : ℕ) (xs : List ℕ) → n ≤ length xs → Counts n xs
-counts n xs h = (h, sym (length-take-le n xs h))
 
 abbrev Inv-loop : tie.InvT-loop
 Inv-loop buffer₀ from₀ buffer from = (from ≤ length buffer) × (length buffer ≡ length buffer₀)

@@ -4,12 +4,12 @@ use mathlib.Core.Path.{_≡_, sym, _∙_}
 use Prim.Native.Nat.{ℕ, _+_, _-_, _≤_}
 use native.Mathlib.Omega.{arith}
 use lib.ListN.{length, take, drop, length-take, length-drop}
-use lib.Seq.{length-take-le}
 use borrow.Author.Needs.{needs}
 use Rattle.io.specs.Counts.{Counts}
 use Rattle.report.specs.Program.{bytesRead}
 use Rattle.report.specs.declared.input.Input.{Input}
 use Rattle.report.specs.declared.input.Input.the-variants.{Read}
+use Rattle.report.proofs.Laws.Got.{counts}
 use Rattle.report.proofs.Laws.Taken.{taken-size}
 use Rattle.report.proofs.input.read_blocks.Statement.{statement}
 use Rattle.report.proofs.input.read_blocks.Tie as tie
@@ -19,9 +19,6 @@ Inv-loop buffer₀ depot₀ from₀ buffer depot from = (from ≤ length buffer)
 
 abbrev μ-loop : tie.MeasureT-loop
 μ-loop buffer₀ depot₀ from₀ buffer depot from = length buffer - from
-
-counts : (n : ℕ) (xs : List ℕ) → n ≤ length xs → Counts n xs
-counts n xs h = (h, sym (length-take-le n xs h))
 
 -- the piece that was read has room in the buffer
 passed : (from size : ℕ) (part buffer : List ℕ) (i : Input) → 512 ≤ length buffer - from → i ≡ Read size → Counts (bytesRead i) part

@@ -48,9 +48,9 @@ def inputs() -> Iterator[tuple[str, bytes]]:
     for length in range(513):
         yield f"a block cut to {length} bytes", block[:length]
         yield f"{length} zeros", bytes(length)
-    month = made(1, 4096, "mixed", "none")[1]
-    for more in (b"\0", month[:512], month, 3 * month):
-        yield f"4096 vans and {len(more)} bytes more", month + more
+    depot = made(1, 4096, "mixed", "none")[1]
+    for more in (b"\0", depot[:512], depot, 3 * depot):
+        yield f"4096 vans and {len(more)} bytes more", depot + more
 
 
 def made(seed: int, vans: int, style: str, damage: str) -> tuple[str, bytes]:

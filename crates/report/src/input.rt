@@ -21,27 +21,27 @@ enum Got {
     Failed,
 }
 
-// Reads block by block into the buffer, and ends behind the first piece that a depot does not take: a
-// block that is refused, or the end of the input, at which a piece is short or empty.
+// Reads block by block into the buffer, up to and with the first piece that a depot does not take: a
+// block that is refused, or the short or empty piece at the end of the input. A buffer with room for 206
+// blocks always meets one.
 pub fn read_blocks(buffer: &mut [u8]) -> Input
     ensures { λ r. ⌜ Counts (bytesRead r) (now (buffer .exit)) ⌝ }
 {
     let mut depot = Depot::fresh();
-    let mut from = 0;
-    while buffer.len() - from >= BLOCK_BYTES {
-        let Input::Read(size) = read(&mut buffer[from..from + BLOCK_BYTES]) else {
+    let mut count = 0;
+    while buffer.len() - count >= BLOCK_BYTES {
+        let Input::Read(size) = read(&mut buffer[count..count + BLOCK_BYTES]) else {
             return Input::Failed;
         };
-        let to = from + size;
-        let load = depot.load(&buffer[from..to]);
+        count += size;
+        let load = depot.load(&buffer[count - size..count]);
         let answer = load.answer;
         let Loading::Taken = answer else {
-            return Input::Read(to);
+            break;
         };
         depot = load.depot;
-        from = to;
     }
-    Input::Read(from)
+    Input::Read(count)
 }
 
 // Fills the buffer from its start, until it is full or the input ends. A read that brings less than was

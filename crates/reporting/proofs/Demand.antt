@@ -17,14 +17,14 @@ use Rattle.numbers.specs.declared.task.Mode.{Mode}
 use Rattle.numbers.specs.declared.task.Mode.the-variants.{Up, Down}
 use Rattle.depot.specs.Figures.{whole, meanOf, given, refused, figuresBy}
 use Rattle.depot.specs.Depot.{isNegativeNumber, figuresOf}
-use Rattle.depot.specs.Book.{Book, vansOf, bookRow, addedBy, offered, movedCount, totalOf, vansFigures}
+use Rattle.depot.specs.Book.{Book, vansOf, bookRow, addedBy, offered, offeredAll, IsTaken, IsSequence, movedCount, totalOf, vansFigures}
 use Rattle.depot.specs.Calls.{Call, load, bookAfter}
 use Rattle.depot.proofs.Demand.{figures-bracketed}
 use Rattle.depot.proofs.Laws.Amounts.{part-amount}
 use Rattle.depot.proofs.Laws.Bracket.{IsSum, value-amount, round-sum}
 use Rattle.depot.proofs.Laws.Reached.{stateOf, begun, IsReached, reached-empty, sums-bracketed, load-agrees, offered-reached, figures-agree}
 use Rattle.reporting.specs.Report.{closingBy, closingText, piecesOf, afterBlock, reportFrom, reportOf}
-use Rattle.reporting.specs.Demand.{bookFrom, bookOf, IsPrinted, some-moved, none-moved, one-refused, ReportsHold}
+use Rattle.reporting.specs.Demand.{IsPrinted, some-moved, none-moved, one-refused, ReportsHold}
 use Rattle.reporting.proofs.Laws.Pieces.{pieces-cut, pieces-bytes}
 
 -- ---- the end of the input
@@ -34,7 +34,7 @@ not-negative : (mode : Mode) (total : Number) (n : ℕ) → 1 ≤ n → IsSum to
 unfolding meanOf
 not-negative mode total n h is = round-sum mode (quotient (value total) (whole n)) (part-amount (value total) n h (value-amount total is)) .plus
 
-closing : (book : Book) → IsReached book → bookOf book ≡ book → IsPrinted book (closingText (stateOf book))
+closing : (book : Book) → IsReached book → IsSequence book → IsPrinted book (closingText (stateOf book))
 unfolding closingText closingBy vansFigures figuresBy stateOf
 closing book reached all = go (eqb moved 0) refl
   where
@@ -56,15 +56,15 @@ closing book reached all = go (eqb moved 0) refl
 
 -- ---- piece by piece
 
-book-more : (start : Book) (pieces : List (List ℕ)) (piece : List ℕ) → bookFrom start (pieces ++ (piece ∷ [])) ≡ offered (bookFrom start pieces) piece
-unfolding bookFrom
+book-more : (start : Book) (pieces : List (List ℕ)) (piece : List ℕ) → offeredAll start (pieces ++ (piece ∷ [])) ≡ offered (offeredAll start pieces) piece
+unfolding offeredAll
 book-more start [] piece = refl
 book-more start (other ∷ pieces) piece = book-more (offered start other) pieces piece
 
 -- from a book of pieces that were all taken
-printed-from : (pieces : List (List ℕ)) (book : Book) → IsReached book → bookOf book ≡ book → All IsBytes pieces
+printed-from : (pieces : List (List ℕ)) (book : Book) → IsReached book → IsSequence book → All IsBytes pieces
     → IsPrinted (book ++ pieces) (reportFrom (stateOf book) (length book) pieces)
-unfolding reportFrom afterBlock offered addedBy bookOf
+unfolding reportFrom afterBlock offered addedBy IsSequence IsTaken
 printed-from [] book reached all are = rw (append-nil book) (closing book reached all)
 printed-from (piece ∷ pieces) book reached all are =
     rw (load-agrees book piece reached) (go (bookRow book piece) refl (λ next all-next. printed-from pieces (book ++ (piece ∷ [])) next all-next (are .1)))
@@ -77,7 +77,7 @@ printed-from (piece ∷ pieces) book reached all are =
 
     -- what the rest prints, where the piece is taken
     Rest : Type 0
-    Rest = IsReached (book ++ (piece ∷ [])) → bookOf (book ++ (piece ∷ [])) ≡ book ++ (piece ∷ [])
+    Rest = IsReached (book ++ (piece ∷ [])) → IsSequence (book ++ (piece ∷ []))
         → IsPrinted ((book ++ (piece ∷ [])) ++ pieces) (reportFrom (stateOf (book ++ (piece ∷ []))) (length (book ++ (piece ∷ []))) pieces)
 
     go : (row : Option ℕ) → bookRow book piece ≡ row → Rest
@@ -88,7 +88,7 @@ printed-from (piece ∷ pieces) book reached all are =
     go (some row) is rest = one-refused book piece pieces row refl all is
 
 pub reports-hold : ReportsHold
-unfolding ReportsHold reportOf bookOf bookFrom
+unfolding ReportsHold reportOf IsSequence IsTaken offeredAll
 reports-hold input are = (pieces-cut input, rw (← begun) (printed-from (piecesOf input) [] reached-empty refl (pieces-bytes input are)))
 
 -- ---- the book of some pieces is that of the calls that offer them
@@ -97,7 +97,7 @@ abbrev pub offers : (pieces : List (List ℕ)) → All IsBytes pieces → List C
 offers [] are = []
 offers (piece ∷ pieces) are = load piece (are .0) ∷ offers pieces (are .1)
 
-pub book-of-calls : (pieces : List (List ℕ)) (are : All IsBytes pieces) (book : Book) → bookFrom book pieces ≡ bookAfter book (offers pieces are)
-unfolding bookFrom bookAfter
+pub book-of-calls : (pieces : List (List ℕ)) (are : All IsBytes pieces) (book : Book) → offeredAll book pieces ≡ bookAfter book (offers pieces are)
+unfolding offeredAll bookAfter
 book-of-calls [] are book = refl
 book-of-calls (piece ∷ pieces) are book = book-of-calls pieces (are .1) (offered book piece)

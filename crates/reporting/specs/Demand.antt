@@ -9,7 +9,7 @@ use Rattle.little_endian.specs.Bytes.{IsBytes}
 use Rattle.numbers.specs.declared.number.Number.{Number}
 use Rattle.depot.specs.Figures.{isParked, isOver, given}
 use Rattle.depot.specs.Depot.{isNegativeNumber}
-use Rattle.depot.specs.Book.{Book, vansOf, bookRow, offered, countBy, movedCount, exactMean, vansFigures}
+use Rattle.depot.specs.Book.{Book, vansOf, bookRow, IsSequence, countBy, movedCount, exactMean, vansFigures}
 use Rattle.depot.specs.Demand.{IsBracket}
 use Rattle.reporting.specs.Report.{reportText, refusedBlockText, refusedCloseText, piecesOf, reportOf}
 
@@ -19,25 +19,17 @@ pub data AreCut : List ℕ → List (List ℕ) → Type 0 where
   full : (piece : List ℕ) {rest : List ℕ} {pieces : List (List ℕ)} → length piece ≡ 512 → AreCut rest pieces → AreCut (piece ++ rest) (piece ∷ pieces)
   short : (piece : List ℕ) → 1 ≤ length piece → length piece < 512 → AreCut piece (piece ∷ [])
 
--- The book of some pieces, offered one after the other: `bookAfter` of these calls. It holds all of them exactly when it is the list of them.
-unfoldable pub bookFrom : Book → List (List ℕ) → Book
-bookFrom book [] = book
-bookFrom book (piece ∷ pieces) = bookFrom (offered book piece) pieces
-
-unfoldable pub bookOf : List (List ℕ) → Book
-bookOf pieces = bookFrom [] pieces
-
--- what is printed for some pieces, by the book: one of three texts
+-- What is printed for some pieces, by the book: one of three texts. Pieces that an empty book takes, each of them, are that book (`IsSequence`).
 pub data IsPrinted (pieces : List (List ℕ)) : List ℕ → Type 0 where
-  -- All were taken and a van moved: the counts of the vans taken, and the figures, which bracket the exact mean. Neither is negative, and a figure is printed
+  -- All are taken and a van moved: the counts of the vans taken, and the figures, which bracket the exact mean. Neither is negative, and a figure is printed
   -- without a sign.
-  some-moved : (low high : Number) → bookOf pieces ≡ pieces → 1 ≤ movedCount (vansOf pieces) → vansFigures (vansOf pieces) ≡ given low high
+  some-moved : (low high : Number) → IsSequence pieces → 1 ≤ movedCount (vansOf pieces) → vansFigures (vansOf pieces) ≡ given low high
       → IsBracket (exactMean (vansOf pieces)) (movedCount (vansOf pieces)) low high → isNegativeNumber low ≡ false → isNegativeNumber high ≡ false
       → IsPrinted pieces (reportText (movedCount (vansOf pieces)) (countBy isParked (vansOf pieces)) (countBy isOver (vansOf pieces)) low high)
-  -- all were taken and no van moved
-  none-moved : bookOf pieces ≡ pieces → movedCount (vansOf pieces) ≡ 0 → IsPrinted pieces (refusedCloseText 17)
-  -- those before one were taken, and that one is refused by the row that applies to it
-  one-refused : (before : Book) (piece : List ℕ) (behind : List (List ℕ)) (row : ℕ) → pieces ≡ before ++ (piece ∷ behind) → bookOf before ≡ before
+  -- all are taken and no van moved
+  none-moved : IsSequence pieces → movedCount (vansOf pieces) ≡ 0 → IsPrinted pieces (refusedCloseText 17)
+  -- those before one are taken, and that one is refused by the row that applies to it
+  one-refused : (before : Book) (piece : List ℕ) (behind : List (List ℕ)) (row : ℕ) → pieces ≡ before ++ (piece ∷ behind) → IsSequence before
       → bookRow before piece ≡ some row → IsPrinted pieces (refusedBlockText row (length before))
 
 -- of every input of bytes

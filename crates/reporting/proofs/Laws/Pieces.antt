@@ -1,12 +1,12 @@
 -- The pieces of an input: how it is cut into them, and those behind a piece are the pieces of what is left behind it.
-use mathlib.Core.List.{List, [], _∷_}
+use mathlib.Core.List.{List, [], _∷_, _++_}
 use mathlib.Core.Path.{_≡_, refl, subst, ap, _∙_}
-use Prim.Native.Nat.{ℕ, zero, suc, min, _+_, _-_, _≤_, _<_}
+use Prim.Native.Nat.{ℕ, zero, suc, min, _+_, _*_, _-_, _≤_, _<_}
 use native.Mathlib.Decide.{decLe}
 use native.Mathlib.Nat.{le-refl, lt-of-not-le, not-suc-le-zero}
 use native.Mathlib.Omega.{arith}
-use lib.ListN.{length, take, drop, length-take, length-drop, take-append-drop}
-use lib.Seq.{length-take-le, take-all, take-take, drop-drop}
+use lib.ListN.{length, take, drop, length-take, length-drop, length-append, take-append-drop}
+use lib.Seq.{length-take-le, take-all, take-append-le, drop-append-le, take-take, drop-drop}
 use Rattle.little_endian.specs.Bytes.{IsBytes}
 use Rattle.little_endian.proofs.Laws.Bytes.{bytes-take, bytes-drop}
 use Rattle.blocks.proofs.Laws.Lists.{All, take-least, drop-least, take-drop}
@@ -97,3 +97,14 @@ first-of n input h =
     let some : 0 < length (take (512 + n) input) = rw (length-take (512 + n) input) (omega arith) in
     let same : 512 + n - 512 ≡ n = omega arith in
     first-piece (take (512 + n) input) some ∙ rw (take-take 512 (512 + n) input (omega arith), ← take-drop 512 (512 + n) input, same)
+
+-- ---- the pieces of whole blocks and what follows them
+
+pub pieces-append : (k : ℕ) (input rest : List ℕ) → length input ≡ 512 * k → piecesOf (input ++ rest) ≡ piecesOf input ++ piecesOf rest
+pieces-append zero input rest e = rw (no-bytes input e, no-piece [] refl)
+pieces-append (suc k) input rest e =
+    let whole : 512 ≤ length input = omega (arith, e) in
+    let more : 0 < length (input ++ rest) = rw (length-append input rest) (omega arith) in
+    let left : length (drop 512 input) ≡ 512 * k = length-drop 512 input ∙ omega (arith, e) in
+    rw (first-piece (input ++ rest) more, first-piece input (omega arith), take-append-le 512 input rest whole, drop-append-le 512 input rest whole)
+    (ap (λ (p : List (List ℕ)). take 512 input ∷ p) (pieces-append k (drop 512 input) rest left))

@@ -1,5 +1,5 @@
 -- What is left to print after a piece, and how many pieces decide it. A piece that is taken is one of 205: the depot was open and fit, so it had taken fewer, and has then taken one more.
-use mathlib.Core.List.{List, [], _∷_}
+use mathlib.Core.List.{List, [], _∷_, _++_}
 use mathlib.Core.Option.{Option, none, some}
 use mathlib.Core.Path.{_≡_, refl, sym, ap, _∙_}
 use Prim.Native.Nat.{ℕ, zero, suc, min, _+_, _-_, _*_, _<_}
@@ -16,7 +16,7 @@ use Rattle.reporting.specs.Report.{refusedBlockText, piecesOf, afterBloc
 use Rattle.reporting.specs.Verdict.{verdictRow}
 use Rattle.reporting.specs.declared.verdict.Verdict.{Verdict}
 use Rattle.reporting.specs.declared.verdict.Verdict.the-variants.{Taken, Refused}
-use Rattle.reporting.proofs.Laws.Pieces.{first-piece, next-piece, first-of}
+use Rattle.reporting.proofs.Laws.Pieces.{first-piece, next-piece, first-of, pieces-append}
 
 -- the state with a block more has taken one block more
 one-more : (s : Depot) (block : List ℕ) → withBlock s block .blocks ≡ suc (s .blocks)
@@ -53,6 +53,28 @@ module _ (s : Depot) (input : List ℕ) (from to : ℕ) (more : from < length in
   pub after-refused : (row : ℕ) → v ≡ Refused row → refusedBlockText row (s .blocks) ≡ reportFrom s (s .blocks) (piecesOf (drop from input))
   unfolding afterBlock verdictRow
   after-refused row e = by-row (some row) (sym judged ∙ ap verdictRow e)
+
+-- ---- a refused piece decides
+
+-- one of some pieces is refused
+pub data IsRefused : Depot → List (List ℕ) → Type 0 where
+  here : {s : Depot} {piece : List ℕ} {pieces : List (List ℕ)} (row : ℕ) → loadOf s piece .refusal ≡ some row → IsRefused s (piece ∷ pieces)
+  later : {s : Depot} {piece : List ℕ} {pieces : List (List ℕ)} → IsRefused (loadOf s piece .depot) pieces → IsRefused s (piece ∷ pieces)
+
+behind-refused : {s : Depot} {pieces : List (List ℕ)} (position : ℕ) (behind : List (List ℕ)) → IsRefused s pieces → reportFrom s position (pieces ++ behind) ≡ reportFrom s position pieces
+unfolding reportFrom afterBlock
+behind-refused position behind (here row e) = rw e
+behind-refused {s} position behind (later {piece = piece} {pieces = pieces} more) = go (loadOf s piece .refusal) (behind-refused (suc position) behind more)
+  where
+    go : (row : Option ℕ) → reportFrom (loadOf s piece .depot) (suc position) (pieces ++ behind) ≡ reportFrom (loadOf s piece .depot) (suc position) pieces
+        → afterBlock row position (reportFrom (loadOf s piece .depot) (suc position) (pieces ++ behind)) ≡ afterBlock row position (reportFrom (loadOf s piece .depot) (suc position) pieces)
+    go none same = same
+    go (some row) same = refl
+
+-- An input of whole blocks, one of which is refused, prints the same whatever follows: nothing behind it need be read.
+pub refused-decides : (k : ℕ) (input rest : List ℕ) → length input ≡ 512 * k → IsRefused fresh (piecesOf input) → reportOf (input ++ rest) ≡ reportOf input
+unfolding reportOf
+refused-decides k input rest e more = rw (pieces-append k input rest e) (behind-refused 0 (piecesOf rest) more)
 
 -- ---- the first 206 pieces decide
 

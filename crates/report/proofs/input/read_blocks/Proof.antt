@@ -15,27 +15,32 @@ use Rattle.report.proofs.input.read_blocks.Statement.{statement}
 use Rattle.report.proofs.input.read_blocks.Tie as tie
 
 abbrev Inv-loop : tie.InvT-loop
-Inv-loop buffer₀ depot₀ from₀ buffer depot from = (from ≤ length buffer) × (length buffer ≡ length buffer₀)
+Inv-loop buffer₀ depot₀ count₀ buffer depot count = (count ≤ length buffer) × (length buffer ≡ length buffer₀)
 
 abbrev μ-loop : tie.MeasureT-loop
-μ-loop buffer₀ depot₀ from₀ buffer depot from = length buffer - from
+μ-loop buffer₀ depot₀ count₀ buffer depot count = length buffer - count
 
 -- the piece that was read has room in the buffer
-passed : (from size : ℕ) (part buffer : List ℕ) (i : Input) → 512 ≤ length buffer - from → i ≡ Read size → Counts (bytesRead i) part
-    → length part ≡ length (take (from + 512 - from) (drop from buffer)) → from + size ≤ length buffer
+passed : (count size : ℕ) (part buffer : List ℕ) (i : Input) → 512 ≤ length buffer - count → i ≡ Read size → Counts (bytesRead i) part
+    → length part ≡ length (take (count + 512 - count) (drop count buffer)) → count + size ≤ length buffer
 unfolding bytesRead
-passed from size part buffer i room is read-in e =
+passed count size part buffer i room is read-in e =
     let h : size ≤ length part = (rw is at read-in) .0 in
-    omega (arith, h, e ∙ length-take (from + 512 - from) (drop from buffer), length-drop from buffer)
+    omega (arith, h, e ∙ length-take (count + 512 - count) (drop count buffer), length-drop count buffer)
 
-end-of : (c : tie.After-size Inv-loop μ-loop) → let loop = c .before .before .before .before .before .before .before in loop .loop .from + c .size .given .0 .0 ≤ length (loop .loop .buffer)
+end-of : (c : tie.After-size Inv-loop μ-loop) → let loop = c .before .before .before .before .before .before .before in loop .loop .count + c .size .given .0 .0 ≤ length (loop .loop .buffer)
 end-of c =
-    passed (c .before .before .before .before .before .before .before .loop .from) (c .size .given .0 .0) (c .before .before .before .before .read .last .0) (c .before .before .before .before .before .before .before .loop .buffer) (c .before .before .before .before .read .result) (c .before .before .before .before .before .before .loop-test .taken) (c .size .given .1)
-    (c .before .before .before .before .read .ensures) (c .before .before .before .buffer .given .0)
+    let read = c .before .before .before .before in
+    let loop = read .before .before .before in
+    passed (loop .loop .count) (c .size .given .0 .0) (read .read .last .0) (loop .loop .buffer) (read .read .result) (read .before .before .loop-test .taken) (c .size .given .1)
+    (read .read .ensures) (c .before .before .before .buffer .given .0)
 
 -- a piece that is taken leads on
-size-is : (from size : ℕ) (whole : List ℕ) → from + size ≤ length whole → length (take (from + size - from) (drop from whole)) ≡ 512 → size ≡ 512
-size-is from size whole h e = omega (arith, sym (length-take (from + size - from) (drop from whole)) ∙ e, length-drop from whole)
+size-is : (count size : ℕ) (whole : List ℕ) → count + size ≤ length whole → length (take (count + size - (count + size - size)) (drop (count + size - size) whole)) ≡ 512
+    → size ≡ 512
+size-is count size whole h e =
+    let start = count + size - size in
+    omega (arith, sym (length-take (count + size - start) (drop start whole)) ∙ e, length-drop start whole)
 
 fresh-requires : tie.Need-fresh-requires Inv-loop μ-loop
 fresh-requires c κs = search needs
@@ -74,14 +79,17 @@ returns : tie.Need-returns Inv-loop μ-loop
 unfolding bytesRead
 returns c = search needs
 
-add-to : tie.Need-add-to Inv-loop μ-loop
-add-to c = let end = end-of (c .before) in search needs
+add-count : tie.Need-add-count Inv-loop μ-loop
+add-count c = let end = end-of (c .before) in search needs
 
 sub-load : tie.Need-sub-load Inv-loop μ-loop
-sub-load c = search needs
+sub-load c = omega arith
+
+sub-load-2 : tie.Need-sub-load-2 Inv-loop μ-loop
+sub-load-2 c = omega arith
 
 part-load-start : tie.Need-part-load-start Inv-loop μ-loop
-part-load-start c = search needs
+part-load-start c = let end = end-of (c .before .before) in search needs
 
 part-load-end : tie.Need-part-load-end Inv-loop μ-loop
 part-load-end c = let end = end-of (c .before .before) in search needs
@@ -92,29 +100,37 @@ load-requires c κs = search needs
 enum-told-2 : tie.Need-enum-told-2 Inv-loop μ-loop
 enum-told-2 c = search needs
 
+loop-less : tie.Need-loop-less Inv-loop μ-loop
+loop-less c =
+    let load = c .before .before .before in
+    let read = load .before .before .before .before in
+    let loop = read .before .before .before .before .before .before in
+    let end = end-of read in
+    let same = read .before .before .before .buffer .given .1 in
+    let full = size-is (loop .before .loop .count) (read .size .given .0 .0) _ (rw same end) (taken-size _ _ _ (load .load .ensures) (c .before .enum-told2 .given .1)) in
+    omega (arith, end, full, same, loop .loop-test .taken)
+
+loop-again : tie.Need-loop-again Inv-loop μ-loop
+loop-again c =
+    let read = c .before .before .before .before .before .before .before in
+    let same = read .before .before .before .buffer .given .1 in
+    (omega (arith, end-of read, same), same ∙ read .before .before .before .before .before .before .before .loop .inv .1)
+
 same-length-2 : tie.Need-same-length-2 Inv-loop μ-loop
 same-length-2 c = search needs
 
 returns-2 : tie.Need-returns-2 Inv-loop μ-loop
 unfolding bytesRead
-returns-2 c = counts _ _ (let end = end-of (c .before .before .before .before .before) in omega (arith, end, c .before .before .before .before .before .before .before .before .buffer .given .1))
-
-loop-less : tie.Need-loop-less Inv-loop μ-loop
-loop-less c =
-    let end = end-of (c .before .before .before .before .before .before .before) in
-    let same = c .before .before .before .before .before .before .before .before .before .before .buffer .given .1 in
-    let full = size-is (c .before .before .before .before .before .before .before .before .before .before .before .before .before .before .loop .from) (c .before .before .before .before .before .before .before .size .given .0 .0) _ (rw same end) (taken-size _ _ _ (c .before .before .before .load .ensures) (c .before .enum-told2 .given .1)) in
-    omega (arith, end, full, same, c .before .before .before .before .before .before .before .before .before .before .before .before .before .loop-test .taken)
-
-loop-again : tie.Need-loop-again Inv-loop μ-loop
-loop-again c = let end = end-of (c .before .before .before .before .before .before .before) in let same = c .before .before .before .before .before .before .before .before .before .before .buffer .given .1 in (omega (arith, end, same), same ∙ c .before .before .before .before .before .before .before .before .before .before .before .before .before .before .loop .inv .1)
+returns-2 c = counts _ _ (search needs)
 
 same-length-3 : tie.Need-same-length-3 Inv-loop μ-loop
 same-length-3 c = search needs
 
 returns-3 : tie.Need-returns-3 Inv-loop μ-loop
 unfolding bytesRead
-returns-3 c = counts _ _ (search needs)
+returns-3 c =
+    let read = c .before .before .before .before .before in
+    counts _ _ (omega (arith, end-of read, read .before .before .before .buffer .given .1))
 
 pub read-blocks-spec : {M : Type 1} → statement M
 read-blocks-spec =
@@ -134,15 +150,16 @@ read-blocks-spec =
     enum-told
     same-length
     returns
-    add-to
+    add-count
     sub-load
+    sub-load-2
     part-load-start
     part-load-end
     load-requires
     enum-told-2
-    same-length-2
-    returns-2
     loop-less
     loop-again
+    same-length-2
+    returns-2
     same-length-3
     returns-3)

@@ -1,10 +1,8 @@
 -- The laws that several proofs cite, each stated once.
 
--- What each exact operation gives is a fraction; two-word magnitudes, and those with their top bit set; operands and the numbers that they stand
+-- What each exact operation gives is a fraction; operands and the numbers that they stand
 -- for; sums of a larger and a smaller operand
 pub mod Operations
-pub mod Wide
-pub mod Top
 pub mod Operands
 pub mod Sum
 pub mod Aligned

@@ -1,6 +1,5 @@
 // The exact sum, difference and product of two numbers, and a number by itself, each rounded once by
 // the caller's task. What is public stands in `operation`.
-mod bias;
 mod magnitude;
 mod operand;
 pub mod operation;

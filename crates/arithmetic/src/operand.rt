@@ -1,11 +1,15 @@
 // A working number taken apart, for the operations: zero has significand and exponent 0.
 ghost use mathlib.Core.Path.{_≡_};
 ghost use mathlib.Core.Bool.{true};
+ghost use Prim.Native.Nat.{_≤_};
+ghost use lib.Ieee.{minus};
 ghost use Rattle.numbers.specs.Fraction.{Equal, value};
-ghost use Rattle.numbers.specs.Number.{isWorking};
+ghost use Rattle.numbers.specs.Number.{isWorkingExponent, isWorking};
 ghost use Rattle.arithmetic.specs.Magnitude.{operandValue, IsOperand};
-use super::bias::biased;
 use numbers::number::Number;
+
+// What is added to a working exponent, so that exponents are numbers from 0 to 131,071.
+const BIAS: i32 = 65_535;
 
 // sign × significand × 2^(exponent − 65,598).
 pub(crate) struct Operand {
@@ -34,4 +38,12 @@ pub(crate) fn operand_of(x: Number) -> Operand
             significand,
         },
     }
+}
+
+// A working exponent with the bias added.
+fn biased(exponent: i32) -> u32
+    requires { ⌜ isWorkingExponent exponent ≡ true ⌝ }
+    ensures { λ r. ⌜ (exponent ≡ minus r 65535) × (r ≤ 131071) ⌝ }
+{
+    (exponent + BIAS) as u32
 }

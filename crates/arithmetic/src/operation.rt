@@ -7,11 +7,10 @@ ghost use Prim.Native.Nat.{_≤_};
 ghost use Rattle.numbers.specs.Answer.{outcome, rounded};
 ghost use Rattle.numbers.specs.Fraction.{value, product};
 ghost use Rattle.numbers.specs.Number.{isWorking};
-ghost use Rattle.numbers.specs.Rounding.{precisionOf, isPrecision};
+ghost use Rattle.numbers.specs.Rounding.{precisionOf};
 ghost use Rattle.arithmetic.specs.Magnitude.{operandValue, IsOperand};
 ghost use Rattle.arithmetic.specs.Operations.{exactOf, operationOf, roundingOf, codedOf, sumOf, differenceOf, productOf};
-use super::magnitude;
-use super::magnitude::Words;
+use super::magnitude::product;
 use super::operand::Operand;
 use super::operand::operand_of;
 use super::rounding::rounded;
@@ -21,8 +20,9 @@ use numbers::number::Number;
 use numbers::number::is_working;
 use numbers::number::negated;
 use numbers::task::Task;
-use numbers::task::is_precision;
+use numbers::task::is_precise;
 use numbers::task::task_of;
+use numbers::words::Cell;
 
 // The last mode code.
 const LAST_CODE: u32 = 6;
@@ -98,16 +98,6 @@ pub fn round(x: Number, task: Task) -> Answer
     }
 }
 
-// Is the precision of the task one?
-fn is_precise(task: Task) -> bool
-    ensures { λ r. ⌜ r ≡ isPrecision (precisionOf task) ⌝ }
-{
-    match task {
-        Task::Round(rounding) => is_precision(rounding.precision),
-        Task::Exact(claim) => is_precision(claim.precision),
-    }
-}
-
 // The answer for two working numbers: the exact operation, rounded once by the task.
 fn answer_of(operation: Operation, a: Number, b: Number, task: Task) -> Answer
     requires { ⌜ (isWorking a ≡ true) × (isWorking b ≡ true) × (1 ≤ precisionOf task) × (precisionOf task ≤ 64) ⌝ }
@@ -127,10 +117,15 @@ fn rounded_product(a: Operand, b: Operand, task: Task) -> Answer
     ensures { λ r. ⌜ outcome r ≡ rounded task (product (operandValue a) (operandValue b)) ⌝ }
 {
     let negative = a.negative != b.negative;
+    let magnitude = product(a.significand, b.significand);
     rounded(
         negative,
         a.exponent + b.exponent,
-        magnitude::product(a.significand, b.significand),
+        Cell {
+            high: magnitude.high,
+            low: magnitude.low,
+            rest: false,
+        },
         task,
     )
 }
@@ -143,9 +138,10 @@ fn rounded_operand(a: Operand, task: Task) -> Answer
     rounded(
         a.negative,
         a.exponent + UNRAISED_STEP,
-        Words {
+        Cell {
             high: 0,
             low: a.significand,
+            rest: false,
         },
         task,
     )

@@ -1,22 +1,24 @@
 // The sum of two operands. The larger one stands with its top bit at bit 126 of a two-word
 // magnitude, the smaller one is shifted right to it, and what is shifted out leaves a rest.
 ghost use mathlib.Core.Path.{_≡_};
-ghost use mathlib.Core.Bool.{not, cond};
+ghost use mathlib.Core.Bool.{not};
 ghost use Prim.Native.Nat.{_*_, _^_, _≤_};
 ghost use Rattle.numbers.specs.Rounding.{precisionOf};
 ghost use Rattle.numbers.specs.Answer.{outcome, rounded};
 ghost use Rattle.numbers.specs.Fraction.{sum};
 ghost use Rattle.numbers.specs.Grid.{digit};
-ghost use Rattle.arithmetic.specs.Magnitude.{wide, oddOf, operandValue, IsOperand, IsAligned};
-use super::magnitude::Words;
+ghost use Rattle.numbers.specs.Cell.{wide};
+ghost use Rattle.arithmetic.specs.Magnitude.{operandValue, IsOperand, IsAligned};
 use super::magnitude::difference;
-use super::magnitude::shift_right;
 use super::magnitude::sum;
 use super::operand::Operand;
 use super::rounding::rounded;
 use numbers::answer::Answer;
 use numbers::number::TOP_BIT;
 use numbers::task::Task;
+use numbers::words::Cell;
+use numbers::words::Words;
+use numbers::words::shift_right;
 
 // What is added to an operand's exponent where its significand × 2^63 is a two-word magnitude.
 const RAISED_STEP: u32 = 65_535;
@@ -42,20 +44,6 @@ fn borrow(rest: bool) -> Words
     }
 }
 
-// The magnitude, made odd where there is a rest below its last bit.
-fn sticky(a: Words, rest: bool) -> Words
-    ensures { λ r. ⌜ wide (r .high) (r .low) ≡ cond rest (oddOf (wide (a .high) (a .low))) (wide (a .high) (a .low)) ⌝ }
-{
-    if rest {
-        Words {
-            high: a.high,
-            low: a.low / 2 * 2 + 1,
-        }
-    } else {
-        a
-    }
-}
-
 // The sum of a larger and a smaller operand of one sign.
 fn added(large: Operand, small: Operand, task: Task) -> Answer
     requires { ⌜ IsAligned large small × (small .negative ≡ large .negative) × (1 ≤ precisionOf task) × (precisionOf task ≤ 64) ⌝ }
@@ -73,7 +61,11 @@ fn added(large: Operand, small: Operand, task: Task) -> Answer
     rounded(
         large.negative,
         large.exponent + RAISED_STEP,
-        sticky(joined, cell.rest),
+        Cell {
+            high: joined.high,
+            low: joined.low,
+            rest: cell.rest,
+        },
         task,
     )
 }
@@ -97,7 +89,11 @@ fn subtracted(large: Operand, small: Operand, task: Task) -> Answer
     rounded(
         large.negative,
         large.exponent + RAISED_STEP,
-        sticky(left, cell.rest),
+        Cell {
+            high: left.high,
+            low: left.low,
+            rest: cell.rest,
+        },
         task,
     )
 }

@@ -36,3 +36,6 @@ pub mod Digits
 pub mod Results
 pub mod Failing
 pub mod Divided
+-- The quotient on words: of two significands, and its rounding
+pub mod Words
+pub mod Rounds

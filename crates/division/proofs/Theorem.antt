@@ -27,7 +27,7 @@ use Rattle.division.specs.declared.answer.Step.{Step}
 use Rattle.division.specs.declared.answer.Step.the-variants as step
 use Rattle.division.proofs.Laws.Admissible.{admissible-parts}
 use Rattle.division.proofs.Laws.Divided.{last-step, no-step-fails, step-given}
-use Rattle.division.proofs.Laws.Divisible.{step-range, divisible}
+use Rattle.division.proofs.Laws.Divisible.{step-range, taken}
 use Rattle.division.proofs.Laws.Line.{as-given}
 use Rattle.division.proofs.Laws.Results.{step-result}
 use Rattle.division.proofs.Laws.Scaled.{equal-scaled}
@@ -167,16 +167,13 @@ given-quotient answer.ZeroDivisor x e = absurd (refused-given 5 x e)
 
 -- where no row applies, the step entry gives the value of the table and the quotient entry the exact quotient rounded once
 module _ (p d : Number) (code n : ℕ) (is : IsTaken p d code n) where
-  taken : (x : Outcome) → x ≡ unlessIndivisible p d code n x
-  taken x = divisible p d code n x (is .mode) (range-precision n (is .precise .0) (is .precise .1)) (is .dividend) (is .divisor) (is .nonzero)
-
   step-taken : (k : ℕ) → 1 ≤ k → k ≤ 32 → stepOf p d code n k ≡ afterStep p d (taskOf code n) k
   unfolding stepOf isStep
-  step-taken k k0 k1 = rw (le-leb 1 k k0, le-leb k 32 k1) (sym (taken (afterStep p d (taskOf code n) k)))
+  step-taken k k0 k1 = rw (le-leb 1 k k0, le-leb k 32 k1) (sym (taken is (afterStep p d (taskOf code n) k)))
 
-  quotient-taken : quotientOf p d code n ≡ rounded (taskOf code n) (quotient (value p) (value d))
+  pub quotient-taken : quotientOf p d code n ≡ rounded (taskOf code n) (quotient (value p) (value d))
   unfolding quotientOf
-  quotient-taken = sym (taken (rounded (taskOf code n) (quotient (value p) (value d))))
+  quotient-taken = sym (taken is (rounded (taskOf code n) (quotient (value p) (value d))))
 
   table-given : (k : ℕ) → 1 ≤ k → k ≤ 32 → (x : Number) × (afterStep p d (taskOf code n) k ≡ given x)
   table-given k k0 k1 = let m = coded p d code n is in let x = m .2 .every-step-given k k0 k1 in (x .0, rw (m .1) (x .1))

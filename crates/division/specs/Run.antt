@@ -12,7 +12,11 @@ use Rattle.numbers.specs.declared.number.Number.{Number}
 use Rattle.numbers.specs.declared.task.Mode.the-variants.{Trunc, Away, Sticky}
 use Rattle.numbers.specs.declared.task.Task.{Task}
 use Rattle.division.specs.Steps.{complement, lineOf, lineOfBoth, afterStep}
+use Rattle.division.specs.Quotient.{unlessIndivisible}
+use Rattle.division.specs.Theorem.{IsTaken}
 use Rattle.division.specs.declared.digit.Divisor.{Divisor}
+use Rattle.division.specs.declared.judgement.Judgement.{Judgement}
+use Rattle.division.specs.declared.judgement.Judgement.the-variants.{Divisible, UnknownMode, BadPrecision, FirstUnfit, SecondUnfit, ZeroDivisor}
 
 -- a working number, or a refusal
 unfoldable pub IsResult : Outcome → Type 0
@@ -95,3 +99,12 @@ pub record IsDivisor (d : Number) (r : Divisor) : Type 0 where
   pub reciprocal-result : IsResult (outcome (r .reciprocal))
   pub high-result : IsResult (outcome (r .high))
   pub low-result : IsResult (outcome (r .low))
+
+-- rows 1 to 5: the row that refuses, whatever the answer would be, or that the pair is divided
+unfoldable pub IsJudged : Number → Number → ℕ → ℕ → Judgement → Type 0
+IsJudged p d code n Divisible = IsTaken p d code n
+IsJudged p d code n UnknownMode = (x : Outcome) → refused 1 ≡ unlessIndivisible p d code n x
+IsJudged p d code n BadPrecision = (x : Outcome) → refused 2 ≡ unlessIndivisible p d code n x
+IsJudged p d code n FirstUnfit = (x : Outcome) → refused 3 ≡ unlessIndivisible p d code n x
+IsJudged p d code n SecondUnfit = (x : Outcome) → refused 4 ≡ unlessIndivisible p d code n x
+IsJudged p d code n ZeroDivisor = (x : Outcome) → refused 5 ≡ unlessIndivisible p d code n x

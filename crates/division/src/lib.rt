@@ -2,9 +2,11 @@
 // and `steps` the value after any step. What they answer stands in `answer`.
 pub mod answer;
 mod digit;
+mod judgement;
 mod line;
 pub mod quotient;
 mod reciprocal;
 mod seed;
+mod significands;
 pub mod steps;
 mod tasks;

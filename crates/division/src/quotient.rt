@@ -1,25 +1,86 @@
-// The quotient, rounded once.
+// The quotient, rounded once. It runs on words, apart from the thirty-two steps; the theorem joins the two.
 ghost use mathlib.Core.Path.{_≡_};
-ghost use Rattle.division.specs.Quotient.{quotientOutcome, quotientOf};
+ghost use mathlib.Core.Bool.{true, false};
+ghost use Rattle.numbers.specs.Answer.{outcome, rounded};
+ghost use Rattle.numbers.specs.Fraction.{value, quotient};
+ghost use Rattle.numbers.specs.Number.{isAdmissible};
+ghost use Rattle.division.specs.Quotient.{quotientOutcome, isZero, quotientOf};
+ghost use Rattle.division.specs.Run.{IsTask};
+ghost use Rattle.division.specs.Theorem.{IsAnswer};
 use super::answer::Quotient;
-use super::answer::Step;
-use super::steps::LAST_STEP;
-use super::steps::step;
+use super::judgement::Judgement;
+use super::judgement::judged;
+use super::significands::digits_of;
+use numbers::answer::Answer;
 use numbers::number::Number;
+use numbers::rounding::round_cell;
+use numbers::task::Task;
+use numbers::task::task_of;
+use numbers::words::Cell;
+
+// The bits that `digits_of` gives after the first.
+const DIGIT_BITS: i32 = 81;
 
 // p / d, rounded by the mode code and the precision, or the lowest refusal that applies.
 pub fn divide(p: Number, d: Number, code: u32, precision: u32) -> Quotient
     ensures { λ r. ⌜ quotientOutcome r ≡ quotientOf p d code precision ⌝ }
 {
-    match step(p, d, code, precision, LAST_STEP) {
-        Step::Given(x) => Quotient::Given(x),
-        Step::UnknownMode => Quotient::UnknownMode,
-        Step::BadPrecision => Quotient::BadPrecision,
-        Step::FirstUnfit => Quotient::FirstUnfit,
-        Step::SecondUnfit => Quotient::SecondUnfit,
-        // 6, 7 and 8 never come: there is a step 32, and no step fails its claim.
-        Step::ZeroDivisor | Step::NoSuchStep | Step::ExponentOutside | Step::TooManyBits => {
-            Quotient::ZeroDivisor
-        }
+    match judged(p, d, code, precision) {
+        Judgement::UnknownMode => Quotient::UnknownMode,
+        Judgement::BadPrecision => Quotient::BadPrecision,
+        Judgement::FirstUnfit => Quotient::FirstUnfit,
+        Judgement::SecondUnfit => Quotient::SecondUnfit,
+        Judgement::ZeroDivisor => Quotient::ZeroDivisor,
+        Judgement::Divisible => answered(divided(p, d, task_of(code, precision))),
+    }
+}
+
+// The quotient with nothing to refuse: its digits and whether there is a remainder are a cell.
+fn divided(p: Number, d: Number, task: Task) -> Answer
+    requires { ⌜ (isAdmissible p ≡ true) × (isAdmissible d ≡ true) × (isZero d ≡ false) × IsTask task ⌝ }
+    ensures { λ r. ⌜ outcome r ≡ rounded task (quotient (value p) (value d)) ⌝ }
+{
+    let Number::Finite {
+        negative: p_negative,
+        exponent: p_exponent,
+        significand: p_significand,
+    } = p
+    else {
+        return Answer::Given(Number::Zero);
+    };
+    let Number::Finite {
+        negative: d_negative,
+        exponent: d_exponent,
+        significand: d_significand,
+    } = d
+    else {
+        return Answer::Given(Number::Zero);
+    };
+    let digits = digits_of(p_significand, d_significand);
+    let negative = p_negative != d_negative;
+    round_cell(
+        negative,
+        Cell {
+            high: digits.high,
+            low: digits.low,
+            rest: digits.remainder > 0,
+        },
+        p_exponent - d_exponent - DIGIT_BITS,
+        task,
+    )
+}
+
+// The answer of a rounding as the answer of a division. 7 and 8 never come; 5 stands where they would.
+fn answered(a: Answer) -> Quotient
+    requires { ⌜ IsAnswer 5 (outcome a) ⌝ }
+    ensures { λ r. ⌜ quotientOutcome r ≡ outcome a ⌝ }
+{
+    match a {
+        Answer::Given(x) => Quotient::Given(x),
+        Answer::UnknownMode => Quotient::UnknownMode,
+        Answer::BadPrecision => Quotient::BadPrecision,
+        Answer::FirstUnfit => Quotient::FirstUnfit,
+        Answer::SecondUnfit => Quotient::SecondUnfit,
+        Answer::ExponentOutside | Answer::TooManyBits => Quotient::ZeroDivisor,
     }
 }

@@ -1,13 +1,12 @@
 // Step 1: the seed of a divisor's reciprocal, from a table.
 ghost use mathlib.Core.Path.{_≡_};
 ghost use mathlib.Core.Bool.{true, false};
-ghost use Prim.Native.Nat.{_<_};
 ghost use Rattle.numbers.specs.Number.{isAdmissible};
 ghost use Rattle.numbers.specs.Answer.{outcome, rounded};
 ghost use Rattle.numbers.specs.Rounding.{claim};
 ghost use Rattle.division.specs.Quotient.{isZero};
 ghost use Rattle.division.specs.Run.{IsResult};
-ghost use Rattle.division.specs.Steps.{entryOf, seed};
+ghost use Rattle.division.specs.Steps.{entryOf, indexOf, seed};
 use numbers::answer::Answer;
 use numbers::number::Number;
 
@@ -143,12 +142,12 @@ const SEEDS: [u8; 128] = [
     128,
 ];
 
-// The entry for the seven bits after the leading one of a significand.
-fn entry(k: usize) -> u8
-    requires { ⌜ k < 128 ⌝ }
-    ensures { λ r. ⌜ r ≡ entryOf k ⌝ }
+// The entry of a significand: k is the seven bits after its leading one.
+pub(crate) fn entry_for(significand: u64) -> u8
+    ensures { λ r. ⌜ r ≡ entryOf (indexOf significand) ⌝ }
 {
-    SEEDS[k]
+    let k = (significand >> 56) % 128;
+    SEEDS[k as usize]
 }
 
 // The seed of a divisor: its entry / 256 × 2^(−e), with the divisor's sign. An entry is 128 to 255, so
@@ -165,8 +164,7 @@ pub(crate) fn seed(d: Number) -> Answer
     else {
         return Answer::Given(Number::Zero);
     };
-    let k = (significand >> 56) % 128;
-    let t = entry(k as usize);
+    let t = entry_for(significand);
     Answer::Given(Number::Finite {
         negative,
         exponent: -1 - exponent,

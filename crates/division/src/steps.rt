@@ -17,6 +17,8 @@ use super::digit::divisor_of;
 use super::digit::high_half;
 use super::digit::low_half;
 use super::digit::remainder_after;
+use super::judgement::Judgement;
+use super::judgement::judged;
 use super::line::combined;
 use super::line::rounded;
 use super::reciprocal::reciprocal_step;
@@ -28,45 +30,29 @@ use super::tasks::TRUNC_32;
 use arithmetic::operation::Operation;
 use numbers::answer::Answer;
 use numbers::number::Number;
-use numbers::number::is_admissible;
 use numbers::task::Task;
-use numbers::task::is_precision;
 use numbers::task::task_of;
 
-// The last mode code of a division, and the last step.
-const LAST_CODE: u32 = 5;
-
+// The last step.
 pub const LAST_STEP: u32 = 32;
 
 // The value after the wanted step of p / d, or the lowest refusal that applies.
 pub fn step(p: Number, d: Number, code: u32, precision: u32, wanted: u32) -> Step
     ensures { λ r. ⌜ stepOutcome r ≡ stepOf p d code precision wanted ⌝ }
 {
-    // What rows 2 to 6 ask.
-    let imprecise = !is_precision(precision);
-    let first_unfit = !is_admissible(p);
-    let second_unfit = !is_admissible(d);
-    let zero_divisor = is_zero(d);
-    let unknown_step = !is_step(wanted);
-    if LAST_CODE < code {
-        return Step::UnknownMode;
+    match judged(p, d, code, precision) {
+        Judgement::UnknownMode => Step::UnknownMode,
+        Judgement::BadPrecision => Step::BadPrecision,
+        Judgement::FirstUnfit => Step::FirstUnfit,
+        Judgement::SecondUnfit => Step::SecondUnfit,
+        Judgement::ZeroDivisor => Step::ZeroDivisor,
+        Judgement::Divisible => {
+            if !is_step(wanted) {
+                return Step::NoSuchStep;
+            }
+            answered(after_step(p, d, task_of(code, precision), wanted))
+        }
     }
-    if imprecise {
-        return Step::BadPrecision;
-    }
-    if first_unfit {
-        return Step::FirstUnfit;
-    }
-    if second_unfit {
-        return Step::SecondUnfit;
-    }
-    if zero_divisor {
-        return Step::ZeroDivisor;
-    }
-    if unknown_step {
-        return Step::NoSuchStep;
-    }
-    answered(after_step(p, d, task_of(code, precision), wanted))
 }
 
 // Is there such a step: 1 to 32?
@@ -77,19 +63,6 @@ fn is_step(wanted: u32) -> bool
         return wanted <= LAST_STEP;
     }
     false
-}
-
-fn is_zero(x: Number) -> bool
-    ensures { λ r. ⌜ r ≡ isZero x ⌝ }
-{
-    match x {
-        Number::Zero => true,
-        Number::Finite {
-            negative: _,
-            exponent: _,
-            significand: _,
-        } => false,
-    }
 }
 
 // The answer of an operation as the answer of a step. Refusals 1 to 4 do not come: the lines have

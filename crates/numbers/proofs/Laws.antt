@@ -18,10 +18,13 @@ pub mod Rounded
 pub mod Bounds
 pub mod Fits
 pub mod Bits
--- Numbers: biased exponents and signed words, numbers of two words, what makes a number fit, that its value tells it, its negation, the refusals
+-- Numbers: biased exponents and signed words, numbers of two words, and those with their top bit set, what makes a number fit, that its value tells it, its negation, the refusals
 pub mod Bias
 pub mod Signed
 pub mod Words
+pub mod Wide
+pub mod Top
+pub mod Round
 pub mod Working
 pub mod Same
 pub mod Negated

@@ -1,6 +1,6 @@
 // The task of a step: a rounding mode with a precision, or an exactness claim.
 ghost use mathlib.Core.Path.{_≡_};
-ghost use Rattle.numbers.specs.Rounding.{taskOf, isPrecision};
+ghost use Rattle.numbers.specs.Rounding.{taskOf, precisionOf, isPrecision};
 
 // The largest precision; the smallest is 1.
 const LARGEST_PRECISION: u32 = 64;
@@ -74,4 +74,14 @@ pub fn is_precision(n: u32) -> bool
         return n <= LARGEST_PRECISION;
     }
     false
+}
+
+// Is the precision of the task one?
+pub fn is_precise(task: Task) -> bool
+    ensures { λ r. ⌜ r ≡ isPrecision (precisionOf task) ⌝ }
+{
+    match task {
+        Task::Round(rounding) => is_precision(rounding.precision),
+        Task::Exact(claim) => is_precision(claim.precision),
+    }
 }

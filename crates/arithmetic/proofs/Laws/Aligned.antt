@@ -1,7 +1,7 @@
 -- Two aligned operands: the shifted smaller one leaves room in two words, a rest means that they stand far apart, and the sum or the difference is
 -- rounded as its cell says.
 use mathlib.Core.Path.{_≡_, refl, sym, ap, _∙_}
-use mathlib.Core.Bool.{Bool, true, false, not, cond}
+use mathlib.Core.Bool.{Bool, true, false, not}
 use Prim.Native.Nat.{ℕ, zero, suc, _+_, _-_, _*_, _/_, _%_, _^_, _≤_, _<_}
 use native.Mathlib.Decide.{decLe}
 use native.Mathlib.Nat.{le-of-lt, le-trans, lt-of-not-le, lt-of-mul-lt-mul-right, le-of-mul-le-mul-right, mul-assoc, mul-le-mul-left, mul-le-mul-right, div-le-self}
@@ -15,7 +15,9 @@ use Rattle.numbers.specs.Grid.{InCell, digit}
 use Rattle.numbers.specs.declared.task.Task.{Task}
 use Rattle.numbers.proofs.Laws.Fractions.{fraction, same-sum, other-sum, sum-fraction}
 use Rattle.numbers.proofs.Laws.Value.{cell-of, same-outcome}
-use Rattle.arithmetic.specs.Magnitude.{lastBit, scaledValue, oddOf, operandValue, IsOperand, IsAligned}
+use Rattle.numbers.specs.Cell.{endOf}
+use Rattle.numbers.specs.Magnitude.{scaledValue}
+use Rattle.arithmetic.specs.Magnitude.{lastBit, operandValue, IsOperand, IsAligned}
 use Rattle.arithmetic.specs.declared.operand.Operand.{Operand}
 use Rattle.arithmetic.proofs.Laws.Sum.{cell-rounds, cell-added, cell-subtracted, raised-power, shifted-cell}
 
@@ -91,7 +93,7 @@ module _ (large small : Operand) (h : IsAligned large small) (task : Task) (n0 :
   grid-cell = shifted-cell rest (small .significand) (small .exponent) (large .exponent) Y (h .lower) cell
 
   added-rounds : small .negative ≡ large .negative
-      → rounded task (scaledValue (large .negative) (cond rest (oddOf (large .significand * 2 ^ 63 + Y)) (large .significand * 2 ^ 63 + Y)) (large .exponent + 65535)) ≡ rounded task (sum (operandValue large) (operandValue small))
+      → rounded task (scaledValue (large .negative) (endOf (large .significand * 2 ^ 63 + Y) rest) (large .exponent + 65535) lastBit) ≡ rounded task (sum (operandValue large) (operandValue small))
   unfolding operandValue scaledValue IsFraction
   added-rounds sign =
       let s = large .negative in
@@ -104,7 +106,7 @@ module _ (large small : Operand) (h : IsAligned large small) (task : Task) (n0 :
       (sum-fraction (fraction (signed s A) (2 ^ lastBit)) (fraction (signed s B) (2 ^ lastBit)) (pow-pos lastBit) (pow-pos lastBit)) (pow-pos lastBit) n0 (same-sum s A B (2 ^ lastBit))))
 
   subtracted-rounds : small .negative ≡ not (large .negative) → (m : ℕ) → m + digit rest + Y ≡ large .significand * 2 ^ 63
-      → rounded task (scaledValue (large .negative) (cond rest (oddOf m) m) (large .exponent + 65535)) ≡ rounded task (sum (operandValue large) (operandValue small))
+      → rounded task (scaledValue (large .negative) (endOf m rest) (large .exponent + 65535) lastBit) ≡ rounded task (sum (operandValue large) (operandValue small))
   unfolding operandValue scaledValue IsFraction
   subtracted-rounds sign m e =
       let s = large .negative in
@@ -130,13 +132,13 @@ module _ (large small : Operand) (h : IsAligned large small) (task : Task) (n0 :
   dropped-is : rest ≡ ltb 0 (small .significand * 2 ^ 63 % 2 ^ (large .exponent - small .exponent))
   dropped-is = dropped ∙ ap (λ (n : ℕ). ltb 0 (n % 2 ^ (large .exponent - small .exponent))) raised
 
-  -- the sum, and its answer from the magnitude M and the odd one W
+  -- the sum, and its answer from the magnitude M
   pub added-fits : T + Y < 2 ^ 128
   added-fits = rw top (sum-fits large small h task n0 n1 Y rest shifted-is dropped-is)
 
-  pub added-answer : small .negative ≡ large .negative → (M W : ℕ) (out : Outcome) → M ≡ T + Y → W ≡ cond rest (oddOf M) M → out ≡ rounded task (scaledValue (large .negative) W (large .exponent + 65535))
+  pub added-answer : small .negative ≡ large .negative → (M : ℕ) (out : Outcome) → M ≡ T + Y → out ≡ rounded task (scaledValue (large .negative) (endOf M rest) (large .exponent + 65535) lastBit)
       → out ≡ rounded task (sum (operandValue large) (operandValue small))
-  added-answer sign M W out m w o = o ∙ rw (w, m, top) (added-rounds large small h task n0 n1 Y rest shifted-is dropped-is sign)
+  added-answer sign M out m o = o ∙ rw (m, top) (added-rounds large small h task n0 n1 Y rest shifted-is dropped-is sign)
 
   -- the difference, less Y and then less the borrow b
   borrow-room : digit rest + Y ≤ T
@@ -148,10 +150,10 @@ module _ (large small : Operand) (h : IsAligned large small) (task : Task) (n0 :
   pub borrowed-fits : (less b : ℕ) → less + Y ≡ T → b ≡ digit rest → b ≤ less
   borrowed-fits less b e k = let r = borrow-room in omega arith
 
-  pub subtracted-answer : small .negative ≡ not (large .negative) → (less b M W : ℕ) (out : Outcome) → less + Y ≡ T → b ≡ digit rest → M + b ≡ less → W ≡ cond rest (oddOf M) M
-      → out ≡ rounded task (scaledValue (large .negative) W (large .exponent + 65535)) → out ≡ rounded task (sum (operandValue large) (operandValue small))
-  subtracted-answer sign less b M W out l k m w o =
-      o ∙ rw w (subtracted-rounds large small h task n0 n1 Y rest shifted-is dropped-is sign M (ap (λ (n : ℕ). M + n + Y) (sym k) ∙ ap (λ (n : ℕ). n + Y) m ∙ l ∙ top))
+  pub subtracted-answer : small .negative ≡ not (large .negative) → (less b M : ℕ) (out : Outcome) → less + Y ≡ T → b ≡ digit rest → M + b ≡ less
+      → out ≡ rounded task (scaledValue (large .negative) (endOf M rest) (large .exponent + 65535) lastBit) → out ≡ rounded task (sum (operandValue large) (operandValue small))
+  subtracted-answer sign less b M out l k m o =
+      o ∙ (subtracted-rounds large small h task n0 n1 Y rest shifted-is dropped-is sign M (ap (λ (n : ℕ). M + n + Y) (sym k) ∙ ap (λ (n : ℕ). n + Y) m ∙ l ∙ top))
 
 -- ---- which operand is the larger
 

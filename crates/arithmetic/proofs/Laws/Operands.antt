@@ -16,7 +16,8 @@ use Rattle.numbers.proofs.Laws.Bias.{biased-power}
 use Rattle.numbers.proofs.Laws.Fractions.{signed-equal}
 use Rattle.numbers.proofs.Laws.Signs.{negative-product}
 use Rattle.numbers.proofs.Laws.Working.{working-parts}
-use Rattle.arithmetic.specs.Magnitude.{lastBit, scaledValue, operandValue, IsOperand}
+use Rattle.numbers.specs.Magnitude.{scaledValue}
+use Rattle.arithmetic.specs.Magnitude.{lastBit, operandValue, IsOperand}
 use Rattle.arithmetic.specs.declared.operand.Operand.{Operand}
 
 -- 0 / 1 is 0 over anything
@@ -50,7 +51,7 @@ pub operand-fraction : (a : Operand) → IsFraction (operandValue a)
 unfolding IsFraction operandValue scaledValue
 operand-fraction a = pow-pos lastBit
 
-pub scaled-fraction : (s : Bool) (F x : ℕ) → IsFraction (scaledValue s F x)
+pub scaled-fraction : (s : Bool) (F x : ℕ) → IsFraction (scaledValue s F x lastBit)
 unfolding IsFraction scaledValue
 scaled-fraction s F x = pow-pos lastBit
 
@@ -63,7 +64,7 @@ twice : lastBit ≡ 65598 + 65598
 unfolding lastBit
 twice = refl
 
-pub product-value : (a b : Operand) → Equal (product (operandValue a) (operandValue b)) (scaledValue (unlike (a .negative) (b .negative)) (a .significand * b .significand) (a .exponent + b .exponent))
+pub product-value : (a b : Operand) → Equal (product (operandValue a) (operandValue b)) (scaledValue (unlike (a .negative) (b .negative)) (a .significand * b .significand) (a .exponent + b .exponent) lastBit)
 unfolding product operandValue scaledValue
 product-value a b =
     let u = unlike (a .negative) (b .negative) in

@@ -1,9 +1,9 @@
--- A sum of aligned magnitudes: the larger one stands on the grid 2^x, the smaller one in a cell of it, and so does their sum or difference. What lies
--- in a cell with a rest is rounded as the odd number of the cell is.
-use mathlib.Core.Path.{_≡_, refl, sym, ap, _∙_}
-use mathlib.Core.Bool.{Bool, true, false, cond}
-use Prim.Native.Nat.{ℕ, suc, _+_, _-_, _*_, _/_, _^_, _≤_, _<_}
-use native.Mathlib.Nat.{mul-assoc, mul-one, lt-of-le-of-lt, mul-le-mul-right, mul-lt-mul-of-pos-right, le-div-iff-mul-le, mul-pos, pow-succ'}
+-- A sum of aligned magnitudes: the larger one stands on the grid 2^x, the smaller one in a cell of it, and so does their sum or difference. So does
+-- what stands for the cell.
+use mathlib.Core.Path.{_≡_, sym, ap, _∙_}
+use mathlib.Core.Bool.{Bool, true, false}
+use Prim.Native.Nat.{ℕ, _+_, _-_, _*_, _^_, _≤_}
+use native.Mathlib.Nat.{mul-assoc, mul-comm, mul-one}
 use native.Mathlib.Omega.{arith}
 use lib.Dec.{lit<}
 use lib.Pow.{pow-add, pow-pos}
@@ -12,44 +12,21 @@ use Rattle.numbers.specs.Fraction.{IsFraction, signed}
 use Rattle.numbers.specs.Answer.{rounded}
 use Rattle.numbers.specs.Grid.{InCell, digit}
 use Rattle.numbers.specs.declared.task.Task.{Task}
-use Rattle.numbers.proofs.Laws.Cell.{cell-ratio, same-cell, one-outcome}
+use Rattle.numbers.proofs.Laws.Cell.{cell-ratio}
 use Rattle.numbers.proofs.Laws.Fractions.{fraction}
-use Rattle.numbers.proofs.Laws.Signs.{abs-signed, negative-signed}
-use Rattle.arithmetic.specs.Magnitude.{lastBit, scaledValue, oddOf}
-
--- ---- the odd number of a cell
-
--- p and the odd number of its cell F, both in the cell F / 2 of the grid of twice the width
-module _ (p F g d : ℕ) (d0 : 0 < d) (g0 : 0 < g) where
-  wider : F * g < p → p < F * g + g → InCell true (p * d) (F / 2) (d * (2 * g))
-  wider l h =
-      let a : F / 2 * 2 ≤ F = omega arith in
-      let b : F + 1 ≤ F / 2 * 2 + 2 = omega arith in
-      (omega (arith, mul-le-mul-right (g * d) a, mul-lt-mul-of-pos-right {k = d} l d0), omega (arith, mul-le-mul-right (g * d) b, mul-lt-mul-of-pos-right {k = d} h d0))
-
-  odd-inside : InCell true ((F / 2 * 2 + 1) * g * d) (F / 2) (d * (2 * g))
-  odd-inside = let k : 0 < g * d = mul-pos g0 d0 in (omega arith, omega arith)
-
-pub odd-rounds : (task : Task) (s : Bool) (p F x : ℕ) → 1 ≤ precisionOf task → 2 * 2 ^ precisionOf task ≤ F → InCell true p F (2 ^ x)
-    → rounded task (fraction (signed s p) (2 ^ lastBit)) ≡ rounded task (scaledValue s (oddOf F) x)
-unfolding scaledValue oddOf IsFraction
-odd-rounds task s p F x n0 fine h =
-    one-outcome task (fraction (signed s p) (2 ^ lastBit)) (scaledValue s (oddOf F) x)
-    (same-cell (fraction (signed s p) (2 ^ lastBit)) (scaledValue s (oddOf F) x) true (suc x) lastBit (F / 2) (pow-pos lastBit) (pow-pos lastBit)
-    (negative-signed s p (lt-of-le-of-lt zero≤ (h .0)) ∙ sym (negative-signed s ((F / 2 * 2 + 1) * 2 ^ x) (mul-pos (omega arith) (pow-pos x))))
-    (rw (abs-signed s p, pow-succ' 2 x) (wider p F (2 ^ x) (2 ^ lastBit) (pow-pos lastBit) (pow-pos x) (h .0) (h .1)))
-    (rw (abs-signed s ((F / 2 * 2 + 1) * 2 ^ x), pow-succ' 2 x) (odd-inside p F (2 ^ x) (2 ^ lastBit) (pow-pos lastBit) (pow-pos x)))
-    (precisionOf task) n0 (le-div-iff-mul-le {k = 2} (omega arith) .1 (omega arith)))
-  where
-    zero≤ : {n : ℕ} → 0 ≤ n
-    zero≤ {n} = omega arith
+use Rattle.numbers.proofs.Laws.Round.{grid-rounds}
+use Rattle.numbers.proofs.Laws.Signs.{abs-signed}
+use Rattle.numbers.specs.Cell.{endOf}
+use Rattle.numbers.specs.Magnitude.{scaledValue}
+use Rattle.arithmetic.specs.Magnitude.{lastBit}
 
 -- a sum in its cell, whether or not there is a rest
 pub cell-rounds : (task : Task) (s : Bool) (p F x : ℕ) (rest : Bool) → 1 ≤ precisionOf task → (rest ≡ true → 2 * 2 ^ precisionOf task ≤ F) → InCell rest p F (2 ^ x)
-    → rounded task (fraction (signed s p) (2 ^ lastBit)) ≡ rounded task (scaledValue s (cond rest (oddOf F) F) x)
-unfolding scaledValue
-cell-rounds task s p F x false n0 fine h = ap (λ (n : ℕ). rounded task (fraction (signed s n) (2 ^ lastBit))) h
-cell-rounds task s p F x true n0 fine h = odd-rounds task s p F x n0 (fine refl) h
+    → rounded task (fraction (signed s p) (2 ^ lastBit)) ≡ rounded task (scaledValue s (endOf F rest) x lastBit)
+unfolding IsFraction
+cell-rounds task s p F x rest n0 fine h =
+    grid-rounds task s (fraction (signed s p) (2 ^ lastBit)) F x lastBit (pow-pos lastBit) (ap (signed s) (sym (abs-signed s p))) n0 rest fine
+    (rw (abs-signed s p) (cell-ratio rest p F (2 ^ x) (p * 2 ^ lastBit) (2 ^ lastBit * 2 ^ x) (2 ^ lastBit) 1 (pow-pos lastBit) (lit< tt) (sym (mul-one (p * 2 ^ lastBit))) (mul-comm (2 ^ x) (2 ^ lastBit) ∙ sym (mul-one (2 ^ lastBit * 2 ^ x))) h))
 
 -- ---- alignment: l on the grid g, and b in the cell Y of it
 

@@ -1,6 +1,6 @@
 -- The refusals in the table's order: what the tests of rows 2 and 6 say, and what `unlessIndivisible`, rows 1 to 5, is behind each test. Rows 1 to 4
 -- are those of every operation.
-use mathlib.Core.Path.{_≡_, _∙_}
+use mathlib.Core.Path.{_≡_, subst, _∙_}
 use mathlib.Core.Bool.{true, false}
 use Prim.Native.Nat.{ℕ, _≤_, _<_}
 use Rattle.numbers.specs.Answer.{Outcome, refused}
@@ -11,8 +11,10 @@ use Rattle.numbers.specs.declared.task.Task.{Task}
 use Rattle.numbers.proofs.Laws.Refusals as rows
 use Rattle.numbers.proofs.Laws.Tests.{range-true}
 use Rattle.division.specs.Quotient.{isZero, unlessIndivisible}
-use Rattle.division.specs.Run.{IsTask}
+use Rattle.division.specs.Run.{IsTask, IsJudged}
+use Rattle.division.specs.Theorem.{IsTaken}
 use Rattle.division.specs.Wanted.{isStep}
+use Rattle.division.specs.declared.judgement.Judgement.{Judgement}
 
 -- what the tests of rows 2 and 6 say of a task and of a step
 pub task-range : (task : Task) (code n : ℕ) → task ≡ taskOf code n → isPrecision n ≡ true → IsTask task
@@ -50,3 +52,11 @@ module _ (p d : Number) (code n : ℕ) (answer : Outcome) where
           pub divisible : isZero d ≡ false → answer ≡ unlessIndivisible p d code n answer
           unfolding unlessIndivisible
           divisible h = rw h (rows.none-unfit isAdmissible p d n answer precise p-fit d-fit ∙ rows.known-mode 5 code _ c)
+
+-- a pair that no row refuses
+pub taken : {p d : Number} {code n : ℕ} → IsTaken p d code n → (x : Outcome) → x ≡ unlessIndivisible p d code n x
+taken {p} {d} {code} {n} is x = divisible p d code n x (is .mode) (rows.range-precision n (is .precise .0) (is .precise .1)) (is .dividend) (is .divisor) (is .nonzero)
+
+-- the case of a judgement that a match has found
+pub judged-as : (p d : Number) (code n : ℕ) (r b : Judgement) → IsJudged p d code n r → r ≡ b → IsJudged p d code n b
+judged-as p d code n r b h e = subst (IsJudged p d code n) e h

@@ -24,7 +24,7 @@ module _ {x d : Fraction} {s t : Bool} {M D i b : ℕ} (D0 : 0 < D) (divisor : I
   unfolding IsFraction ratio
   ratio-fraction = mul-pos (pow-pos (origin + 64)) (mul-pos D0 (pow-pos b))
 
-  positive : IsFraction (quotient x d)
+  pub positive : IsFraction (quotient x d)
   positive = quotient-fraction x d (amount .positive) (scaled-some divisor D0)
 
   quotient-is : Equal (quotient x d) ratio
@@ -34,7 +34,7 @@ module _ {x d : Fraction} {s t : Bool} {M D i b : ℕ} (D0 : 0 < D) (divisor : I
       (quotient-equal x d (scaled t M i (origin + 64)) (scaled s D b origin) (amount .positive) (divisor .positive)
       (scaled-fraction t M i (origin + 64)) (scaled-fraction s D b origin) (scaled-some divisor D0) (amount .amount) (divisor .amount))
 
-  quotient-size : natAbs (quotient x d .numerator) * 2 ^ (b + 64) * D ≡ M * 2 ^ i * quotient x d .denominator
+  pub quotient-size : natAbs (quotient x d .numerator) * 2 ^ (b + 64) * D ≡ M * 2 ^ i * quotient x d .denominator
   unfolding ratio
   quotient-size =
       crossed (natAbs (quotient x d .numerator)) (quotient x d .denominator) (2 ^ origin) (2 ^ (origin + 64)) (2 ^ (b + 64)) (pow-pos origin) (pow-add 2 origin 64) (pow-add 2 b 64)

@@ -2,7 +2,7 @@
 use borrow.Author.Needs.{needs}
 use native.Mathlib.Nat.{sub-pos-iff-lt}
 use native.Mathlib.Omega.{arith}
-use Rattle.arithmetic.proofs.Laws.Wide.{wide-sum, wide-le, wide-lt}
+use Rattle.numbers.proofs.Laws.Wide.{wide-sum, wide-le, wide-lt}
 use Rattle.arithmetic.proofs.magnitude.difference.Statement.{statement}
 use Rattle.arithmetic.proofs.magnitude.difference.Tie as tie
 

@@ -5,7 +5,7 @@ use Prim.Native.Nat.{ℕ, _+_, _*_, _/_, _%_, _^_, _≤_, _<_}
 use native.Mathlib.Omega.{arith}
 use lib.Pow.{split}
 use Rattle.numbers.proofs.Laws.Words.{digits-product}
-use Rattle.arithmetic.specs.Magnitude.{wide}
+use Rattle.numbers.specs.Cell.{wide}
 use Rattle.arithmetic.proofs.magnitude.product.Statement.{statement}
 use Rattle.arithmetic.proofs.magnitude.product.Tie as tie
 

@@ -4,7 +4,7 @@ use mathlib.Core.Path.{refl, sym}
 use native.Mathlib.Nat.{add-zero}
 use native.Mathlib.Omega.{arith}
 use mir.Facts.{fits-of-lt}
-use Rattle.arithmetic.proofs.Laws.Wide.{wide-sum, wide-high}
+use Rattle.numbers.proofs.Laws.Wide.{wide-sum, wide-high}
 use Rattle.arithmetic.proofs.magnitude.sum.Statement.{statement}
 use Rattle.arithmetic.proofs.magnitude.sum.Tie as tie
 

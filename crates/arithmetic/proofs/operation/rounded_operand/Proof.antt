@@ -1,16 +1,18 @@
 -- `arithmetic::operation::rounded_operand` meets its contract: the significand is the low word of a magnitude.
 use mathlib.Core.Path.{_≡_}
+use mathlib.Core.Bool.{false}
 use Prim.Native.Nat.{ℕ}
 use native.Mathlib.Omega.{arith}
 use borrow.Author.Needs.{needs}
 use Rattle.numbers.specs.Answer.{rounded}
-use Rattle.arithmetic.specs.Magnitude.{wide, operandValue}
+use Rattle.numbers.specs.Cell.{wide, endOf}
+use Rattle.arithmetic.specs.Magnitude.{operandValue}
 use Rattle.arithmetic.proofs.operation.rounded_operand.Statement.{statement}
 use Rattle.arithmetic.proofs.operation.rounded_operand.Tie as tie
 
 -- a low word alone
-low-alone : (low : ℕ) → wide 0 low ≡ low
-unfolding wide
+low-alone : (low : ℕ) → endOf (wide 0 low) false ≡ low
+unfolding wide endOf
 low-alone low = omega arith
 
 add-rounded : tie.Need-add-rounded

@@ -1,120 +1,56 @@
--- `arithmetic::rounding::rounded` meets its contract: shifted to its top bit the magnitude is rounded or claimed there, and the laws of Top carry that to its value.
+-- `arithmetic::rounding::rounded` meets its contract: 2^(x − 131,196) is 2^x / 2^131,196.
 use mathlib.Core.Path.{_≡_, sym, ap, _∙_}
 use mathlib.Core.Bool.{Bool}
-use mathlib.Core.Logic.{⊎-elim}
-use Prim.Native.Nat.{ℕ, _+_, _*_, _^_, _≤_, _<_}
-use native.Mathlib.Nat.{zero-mul}
+use Prim.Native.Nat.{ℕ, _≤_}
 use native.Mathlib.Omega.{arith}
 use borrow.Author.Needs.{needs}
 use lib.Ieee.{minus}
+use lib.IntN.{ℤ, pos, _-ℤ_}
+use mir.Facts.{toZ-ofZ, toZ-pos}
+use mir.Syntax.{w32}
+use mir.Val.{SFits, toZ, ofZ}
+use Rattle.numbers.specs.Answer.{rounded}
+use Rattle.numbers.specs.Cell.{endOf, cellRounding}
+use Rattle.numbers.specs.Magnitude.{scaledValue}
 use Rattle.numbers.specs.Rounding.{precisionOf}
-use Rattle.numbers.specs.Answer.{outcome, checked, rounded}
-use Rattle.numbers.specs.declared.answer.Answer.the-variants.{Given}
-use Rattle.numbers.specs.declared.number.Number.the-variants.{Zero}
-use Rattle.numbers.specs.declared.task.Claim.{Claim}
-use Rattle.numbers.specs.declared.task.Mode.the-variants.{Trunc}
-use Rattle.numbers.specs.declared.task.Rounding.{Rounding}
 use Rattle.numbers.specs.declared.task.Task.{Task}
-use Rattle.numbers.specs.declared.task.Task.the-variants.{Round, Exact}
-use Rattle.numbers.proofs.Laws.Signs.{abs-signed}
-use Rattle.numbers.proofs.Laws.Value.{rounded-zero}
-use Rattle.arithmetic.specs.Magnitude.{wide, lastBit, scaledValue, roundedTop, claimedTop}
-use Rattle.arithmetic.proofs.Laws.Top.{round-top, claim-top}
+use Rattle.numbers.proofs.Laws.Bias.{pos-minus}
+use Rattle.numbers.proofs.Laws.Refusals.{range-precision}
+use Rattle.numbers.proofs.Laws.Round.{scaled-binary}
+use Rattle.numbers.proofs.Laws.Signed.{minus-fits}
+use Rattle.arithmetic.specs.Magnitude.{lastBit}
 use Rattle.arithmetic.proofs.rounding.rounded.Statement.{statement}
 use Rattle.arithmetic.proofs.rounding.rounded.Tie as tie
 
--- no bit is set
-nothing : (task : Task) (negative : Bool) (high low x : ℕ) → high ≡ 0 → low ≡ 0 → outcome (Given Zero) ≡ rounded task (scaledValue negative (wide high low) x)
-unfolding outcome wide scaledValue
-nothing task negative high low x h l = rw (h, l) (sym (rounded-zero task (scaledValue negative 0 x) (abs-signed negative (0 * 2 ^ x) ∙ zero-mul (2 ^ x))))
+module _ (x : ℕ) (h : x ≤ 262142) where
+  difference-is : toZ w32 x -ℤ pos 131196 ≡ minus x 131196
+  difference-is = ap (λ (z : ℤ). z -ℤ pos 131196) (toZ-pos w32 {n = x} (omega arith)) ∙ pos-minus x 131196
 
--- a bit is set
-low-set : (high low : ℕ) → (low ≡ 0 → ⊥) → 0 < wide high low
-unfolding wide
-low-set high low n = omega arith
+  difference-fits : SFits w32 (toZ w32 x -ℤ pos 131196)
+  difference-fits = rw difference-is (minus-fits x 131196 (omega arith) (omega arith))
 
-high-set : (high low : ℕ) → (high ≡ 0 → ⊥) → 0 < wide high low
-unfolding wide
-high-set high low n = omega arith
+  exponent-is : toZ w32 (ofZ w32 (toZ w32 x -ℤ pos 131196)) ≡ minus x lastBit
+  unfolding lastBit
+  exponent-is = toZ-ofZ difference-fits ∙ difference-is
 
--- a magnitude that was shifted without loss is still of two words
-still : (F z G : ℕ) → G ≡ F * 2 ^ z → F * 2 ^ z < 2 ^ 128 → G < 2 ^ 128
-still F z G e h = rw e h
+answers : (task : Task) (negative : Bool) (F x : ℕ) (rest : Bool) (e : ℤ) → 1 ≤ precisionOf task → precisionOf task ≤ 64 → e ≡ minus x lastBit
+    → cellRounding negative F rest e task ≡ rounded task (scaledValue negative (endOf F rest) x lastBit)
+unfolding cellRounding
+answers task negative F x rest e n0 n1 is = rw (range-precision (precisionOf task) n0 n1, is) (sym (scaled-binary task negative (endOf F rest) x lastBit n0))
 
--- a task has a precision from 1 to 64, and so has its case
-module _ (task : Task) (n0 : 1 ≤ precisionOf task) (n1 : precisionOf task ≤ 64) where
-  precision : (t : Task) → task ≡ t → (1 ≤ precisionOf t) × (precisionOf t ≤ 64)
-  precision t e = let k : precisionOf task ≡ precisionOf t = ap precisionOf e in (omega arith, omega arith)
+cast-round-cell : tie.Need-cast-round-cell
+cast-round-cell c = search needs
 
-  -- what is done at the top bit is done to the value
-  module _ (negative : Bool) (F x z G : ℕ) (low : 2 ^ 127 ≤ F * 2 ^ z) (high : F * 2 ^ z < 2 ^ 128) (shifted : G ≡ F * 2 ^ z) where
-    round-value : (r : Rounding) → task ≡ Round r → roundedTop (r .mode) negative (minus (x + 127) (lastBit + z)) (r .precision) G ≡ rounded task (scaledValue negative F x)
-    unfolding roundedTop rounded precisionOf
-    round-value r e =
-        let p = precision (Round r) e in
-        rw (e, shifted) (ap checked (sym (round-top negative F x z (r .precision) (p .0) (p .1) low high (r .mode))))
+sub-round-cell : tie.Need-sub-round-cell
+sub-round-cell c = difference-fits (c .args .exponent) (c .pre .0)
 
-    claim-value : (r : Claim) → task ≡ Exact r → claimedTop negative (minus (x + 127) (lastBit + z)) (r .precision) G ≡ rounded task (scaledValue negative F x)
-    unfolding claimedTop rounded precisionOf
-    claim-value r e =
-        let p = precision (Exact r) e in
-        rw (e, shifted) (sym (claim-top negative F x z (r .precision) (p .0) (p .1) low high ∙ rw (round-top negative F x z (r .precision) (p .0) (p .1) low high Trunc)))
+round-cell-requires : tie.Need-round-cell-requires
+round-cell-requires c κs = search needs
 
 returns : tie.Need-returns
-returns c = nothing _ _ _ _ _ (c .before .before .if1 .taken) (c .if2 .taken)
-
-leading-zeros-requires : tie.Need-leading-zeros-requires
-leading-zeros-requires c κs = ⊎-elim (λ w. low-set _ _ (w .2 .left)) (λ w. high-set _ _ (w .left)) (c .if1 .came)
-
-shift-left-requires : tie.Need-shift-left-requires
-shift-left-requires c κs = search needs
-
-enum-known-task : tie.Need-enum-known-task
-enum-known-task c = search needs
-
-round-top-requires : tie.Need-round-top-requires
-unfolding precisionOf
-round-top-requires c κs =
-    let start = c .before .before .before .before .before .before .before in
-    let zeros = c .before .before .before .before .leading-zeros in
-    let n = precision _ (start .pre .1) (start .pre .2) _ (c .before .task .given .1) in
-    (start .pre .0, zeros .ensures .0, still _ _ _ (c .before .before .before .shift-left .ensures) (zeros .ensures .2), n .0, n .1)
-
-enum-known-task-2 : tie.Need-enum-known-task-2
-enum-known-task-2 c = search needs
-
-claim-top-requires : tie.Need-claim-top-requires
-unfolding precisionOf
-claim-top-requires c κs =
-    let start = c .before .before .before .before .before .before .before in
-    let zeros = c .before .before .before .before .leading-zeros in
-    let n = precision _ (start .pre .1) (start .pre .2) _ (c .before .task2 .given .1) in
-    (start .pre .0, zeros .ensures .0, still _ _ _ (c .before .before .before .shift-left .ensures) (zeros .ensures .2), n .0, n .1)
-
-returns-2 : tie.Need-returns-2
-returns-2 c =
-    let start = c .before .before .before .before .before .before .before .before in
-    let zeros = c .before .before .before .before .before .leading-zeros in
-    c .round-top .ensures
-    ∙ round-value _ (start .pre .1) (start .pre .2) _ _ _ _ _ (zeros .ensures .1) (zeros .ensures .2) (c .before .before .before .before .shift-left .ensures) _ (c .before .before .task .given .1)
-
-returns-3 : tie.Need-returns-3
-returns-3 c =
-    let start = c .before .before .before .before .before .before .before .before in
-    let zeros = c .before .before .before .before .before .leading-zeros in
-    c .claim-top .ensures
-    ∙ claim-value _ (start .pre .1) (start .pre .2) _ _ _ _ _ (zeros .ensures .1) (zeros .ensures .2) (c .before .before .before .before .shift-left .ensures) _ (c .before .before .task2 .given .1)
+returns c =
+    let start = c .before in
+    c .round-cell .ensures ∙ answers _ _ _ (start .args .exponent) _ _ (start .pre .1) (start .pre .2) (exponent-is (start .args .exponent) (start .pre .0))
 
 pub rounded-spec : {M : Type 1} → statement M
-rounded-spec =
-    tie.close
-    (tie.spec
-    returns
-    leading-zeros-requires
-    shift-left-requires
-    enum-known-task
-    round-top-requires
-    enum-known-task-2
-    claim-top-requires
-    returns-2
-    returns-3)
+rounded-spec = tie.close (tie.spec cast-round-cell sub-round-cell round-cell-requires returns)

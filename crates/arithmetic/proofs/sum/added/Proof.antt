@@ -24,18 +24,15 @@ sum-requires c κs =
 add-rounded : tie.Need-add-rounded
 add-rounded c = search needs
 
-sticky-requires : tie.Need-sticky-requires
-sticky-requires c κs = search needs
-
 rounded-requires : tie.Need-rounded-requires
 rounded-requires c κs = search needs
 
 returns : tie.Need-returns
 returns c =
-    let start = c .before .before .before .before .before .before .before .before .before in
-    let cell = c .before .before .before .before in
+    let start = c .before .before .before .before .before .before .before .before in
+    let cell = c .before .before .before in
     added-answer _ _ (start .pre .0) _ (start .pre .2) (start .pre .3) _ _ _ (cell .shift-right .result .rest) (cell .before .before .before .before .raised .ensures) (cell .before .before .before .raised2 .ensures) (cell .shift-right .ensures .0)
-    (cell .shift-right .ensures .1) (start .pre .1) _ _ _ (c .before .before .before .sum .ensures) (c .before .sticky .ensures) (c .rounded .ensures)
+    (cell .shift-right .ensures .1) (start .pre .1) _ _ (c .before .before .sum .ensures) (c .rounded .ensures)
 
 pub added-spec : {M : Type 1} → statement M
 added-spec =
@@ -47,6 +44,5 @@ added-spec =
     shift-right-requires
     sum-requires
     add-rounded
-    sticky-requires
     rounded-requires
     returns)

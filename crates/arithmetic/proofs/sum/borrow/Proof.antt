@@ -2,7 +2,7 @@
 use mathlib.Core.Path.{_≡_}
 use mathlib.Core.Bool.{Bool, true, false}
 use Rattle.numbers.specs.Grid.{digit}
-use Rattle.arithmetic.specs.Magnitude.{wide}
+use Rattle.numbers.specs.Cell.{wide}
 use Rattle.arithmetic.proofs.sum.borrow.Statement.{statement}
 use Rattle.arithmetic.proofs.sum.borrow.Tie as tie
 

@@ -1,7 +1,7 @@
 -- `arithmetic::sum::raised` meets its contract: half the significand stands in the upper word, its last bit at the top of the lower one.
 use native.Mathlib.Omega.{arith}
 use borrow.Author.Needs.{needs}
-use Rattle.arithmetic.specs.Magnitude.{wide}
+use Rattle.numbers.specs.Cell.{wide}
 use Rattle.arithmetic.proofs.sum.raised.Statement.{statement}
 use Rattle.arithmetic.proofs.sum.raised.Tie as tie
 

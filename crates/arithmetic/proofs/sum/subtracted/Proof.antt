@@ -34,18 +34,15 @@ difference-requires-2 c κs =
 add-rounded : tie.Need-add-rounded
 add-rounded c = search needs
 
-sticky-requires : tie.Need-sticky-requires
-sticky-requires c κs = search needs
-
 rounded-requires : tie.Need-rounded-requires
 rounded-requires c κs = search needs
 
 returns : tie.Need-returns
 returns c =
-    let cell = c .before .before .before .before .before .before in
+    let cell = c .before .before .before .before .before in
     let start = cell .before .before .before .before .before in
     subtracted-answer _ _ (start .pre .0) _ (start .pre .2) (start .pre .3) _ _ _ (cell .shift-right .result .rest) (cell .before .before .before .before .raised .ensures) (cell .before .before .before .raised2 .ensures) (cell .shift-right .ensures .0)
-    (cell .shift-right .ensures .1) (start .pre .1) _ _ _ _ _ (c .before .before .before .before .before .difference .ensures) (c .before .before .before .before .borrow .ensures) (c .before .before .before .difference2 .ensures) (c .before .sticky .ensures) (c .rounded .ensures)
+    (cell .shift-right .ensures .1) (start .pre .1) _ _ _ _ (c .before .before .before .before .difference .ensures) (c .before .before .before .borrow .ensures) (c .before .before .difference2 .ensures) (c .rounded .ensures)
 
 pub subtracted-spec : {M : Type 1} → statement M
 subtracted-spec =
@@ -59,6 +56,5 @@ subtracted-spec =
     borrow-requires
     difference-requires-2
     add-rounded
-    sticky-requires
     rounded-requires
     returns)

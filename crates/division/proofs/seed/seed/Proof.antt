@@ -1,8 +1,8 @@
 -- `division::seed::seed` meets its contract: the entry is exact in eight bits, and the exponent is −1 less the divisor's.
 use mathlib.Core.Path.{_≡_, sym, subst, ap, ap₂, _∙_}
 use mathlib.Core.Bool.{Bool, true, false, false≢true}
-use Prim.Native.Nat.{ℕ, _+_, _-_, _*_, _/_, _%_, _^_, _≤_, _<_}
-use native.Mathlib.Nat.{mod-lt, mod-eq-of-lt}
+use Prim.Native.Nat.{ℕ, _+_, _-_, _*_, _%_, _^_, _≤_, _<_}
+use native.Mathlib.Nat.{mod-eq-of-lt}
 use native.Mathlib.Omega.{arith}
 use lib.Ieee.{minus}
 use lib.IntN.{ℤ, negsuc, _-ℤ_}
@@ -22,7 +22,7 @@ use Rattle.numbers.proofs.Laws.Same.{same-number}
 use Rattle.numbers.proofs.Laws.Signed.{minus-fits}
 use Rattle.division.specs.Quotient.{isZero}
 use Rattle.division.specs.Run.{IsResult}
-use Rattle.division.specs.Steps.{entryOf, indexOf, seed}
+use Rattle.division.specs.Steps.{indexOf, seed}
 use Rattle.division.proofs.Laws.Admissible.{admissible-parts, finite-working}
 use Rattle.division.proofs.Laws.Scaled.{origin-is, working-scaled, coarser, equal-scaled}
 use Rattle.division.proofs.Laws.Seed.{entryFor, entry-range, index-below, seed-step}
@@ -54,7 +54,7 @@ module _ (d : Number) (s : Bool) (e : ℤ) (S : ℕ) (is : d ≡ Finite s e S) (
   exponent-fits : SFits w32 (negsuc 0 -ℤ toZ w32 (ofZ w32 e))
   exponent-fits = rw exponent-is (minus-fits (131069 - b) 65535 (omega arith) (omega (arith, range .highest)))
 
-  module _ (T : ℕ) (entry : T ≡ entryOf (S / 2 ^ 56 % 128)) where
+  module _ (T : ℕ) (entry : T ≡ entryFor S) where
     -- the number that the code makes
     abbrev made : Number
     made = Finite s (toZ w32 (ofZ w32 (negsuc 0 -ℤ toZ w32 (ofZ w32 e)))) (T * 2 ^ 56 % 2 ^ 64)
@@ -63,7 +63,6 @@ module _ (d : Number) (s : Bool) (e : ℤ) (S : ℕ) (is : d ≡ Finite s e S) (
     byte = entry-range (indexOf S) (index-below S)
 
     made-is : made ≡ Finite s (minus (131069 - b) 65535) (entryFor S * 2 ^ 56)
-    unfolding indexOf
     made-is =
         ap₂ (λ (z : ℤ) (n : ℕ). Finite s z n) (toZ-ofZ exponent-fits ∙ exponent-is)
         (ap (λ (n : ℕ). n * 2 ^ 56 % 2 ^ 64) entry ∙ mod-eq-of-lt (omega (arith, byte .1)))
@@ -89,11 +88,11 @@ enum-told c = search needs
 returns : tie.Need-returns
 returns c = absurd (not-zero _ (c .enum-told .given .1) (c .before .before .pre .1))
 
-entry-requires : tie.Need-entry-requires
-entry-requires c κs = mod-lt _ (omega arith)
+entry-for-requires : tie.Need-entry-for-requires
+entry-for-requires c κs = search needs
 
-sub-t10 : tie.Need-sub-t10
-sub-t10 c =
+sub-t7 : tie.Need-sub-t7
+sub-t7 c =
     let v = c .before .before .d .given in
     let fits : SFits w32 (v .0 .1 .0) = search needs in
     exponent-fits _ _ _ _ (v .1) (c .before .before .before .before .pre .0) fits
@@ -105,7 +104,7 @@ returns-2 : tie.Need-returns-2
 returns-2 c =
     let v = c .before .before .d .given in
     let fits : SFits w32 (v .0 .1 .0) = search needs in
-    seeded _ _ _ _ (v .1) (c .before .before .before .before .pre .0) fits (c .entry .result) (c .entry .ensures)
+    seeded _ _ _ _ (v .1) (c .before .before .before .before .pre .0) fits (c .entry-for .result) (c .entry-for .ensures)
 
 pub seed-spec : {M : Type 1} → statement M
-seed-spec = tie.close (tie.spec enum-known-d enum-told returns entry-requires sub-t10 cast-t8 returns-2)
+seed-spec = tie.close (tie.spec enum-known-d enum-told returns entry-for-requires sub-t7 cast-t8 returns-2)

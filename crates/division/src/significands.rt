@@ -1,0 +1,116 @@
+// The quotient of two significands, in words: the reciprocal of steps 1 to 6 from the seed table and two
+// Newton steps, then a bit and three digits of 27 bits with their exact remainders. Multiplications,
+// shifts, additions and the table; the boards have no divide instruction, so every divisor in this file
+// is a power of two.
+ghost use mathlib.Core.Path.{_≡_};
+ghost use Prim.Native.Nat.{_+_, _*_, _^_, _≤_, _<_};
+ghost use Rattle.numbers.specs.Cell.{wide};
+ghost use Rattle.division.specs.Words.{IsSignificand, refinedWord, HasProducts, IsReciprocalWord, IsQuotient};
+use super::seed::entry_for;
+
+// Half a word, 2^32, and half of that.
+const HALF: u64 = 0x1_0000_0000;
+
+const HALF_OF_HALF: u64 = 0x8000_0000;
+
+// A digit is 27 bits: 2^27.
+const DIGIT: u64 = 0x800_0000;
+
+// A quotient digit, and the remainder after it.
+pub(crate) struct Digit {
+    pub value: u64,
+    pub remainder: u64,
+}
+
+// 82 bits of a quotient in two words, and the remainder after them.
+pub(crate) struct Digits {
+    pub high: u64,
+    pub low: u64,
+    pub remainder: u64,
+}
+
+// p × 2^81 / d.
+pub(crate) fn digits_of(p: u64, d: u64) -> Digits
+    requires { ⌜ IsSignificand p × IsSignificand d ⌝ }
+    ensures { λ r. ⌜ IsQuotient (p * 2 ^ 81) d (wide (r .high) (r .low)) (r .remainder) ⌝ }
+{
+    let reciprocal = reciprocal_of(d);
+    let bit = first_bit(p, d);
+    let first = next_digit(bit.remainder, d, reciprocal);
+    let second = next_digit(first.remainder, d, reciprocal);
+    let third = next_digit(second.remainder, d, reciprocal);
+    Digits {
+        high: bit.value * 0x2_0000 + first.value / 0x400,
+        low: first.value % 0x400 * 0x40_0000_0000_0000 + second.value * DIGIT + third.value,
+        remainder: third.remainder,
+    }
+}
+
+// The bit before the binary point of p / d.
+fn first_bit(p: u64, d: u64) -> Digit
+    requires { ⌜ IsSignificand p × IsSignificand d ⌝ }
+    ensures { λ r. ⌜ IsQuotient p d (r .value) (r .remainder) × (r .value ≤ 1) ⌝ }
+{
+    if p < d {
+        Digit {
+            value: 0,
+            remainder: p,
+        }
+    } else {
+        Digit {
+            value: 1,
+            remainder: p - d,
+        }
+    }
+}
+
+// The next 27 bits of a remainder. The upper half of the remainder times the reciprocal gives the digit, or
+// one less; what is left of remainder × 2^27 is held in two halves of a word, and one divisor more is
+// taken off it if it is not below one.
+fn next_digit(remainder: u64, d: u64, reciprocal: u64) -> Digit
+    requires { ⌜ IsSignificand d × IsReciprocalWord d reciprocal × (remainder < d) ⌝ }
+    ensures { λ r. ⌜ IsQuotient (remainder * 2 ^ 27) d (r .value) (r .remainder) ⌝ }
+{
+    let d1 = d / HALF;
+    let d0 = d % HALF;
+    let r1 = remainder / HALF;
+    let r0 = remainder % HALF;
+    let digit = r1 * reciprocal / 0x10_0000_0000;
+    // remainder × 2^27 − digit × d, with 2^61 lent to the lower half so that it is not negative.
+    let low = 0x2000_0000_0000_0000 + r0 * DIGIT - digit * d0;
+    let left1 = r1 * DIGIT + low / HALF - (digit * d1 + 0x2000_0000);
+    let left0 = low % HALF;
+    // The same less d, with 2^32 lent: `over` is above d1 where d can be taken off.
+    let lent = HALF + left0 - d0;
+    let over = left1 + lent / HALF;
+    if over <= d1 {
+        Digit {
+            value: digit,
+            remainder: left1 * HALF + left0,
+        }
+    } else {
+        Digit {
+            value: digit + 1,
+            remainder: (over - d1 - 1) * HALF + lent % HALF,
+        }
+    }
+}
+
+// The reciprocal of a divisor: the seed, refined twice. The divisor is rounded up to 32 bits.
+fn reciprocal_of(d: u64) -> u64
+    requires { ⌜ IsSignificand d ⌝ }
+    ensures { λ r. ⌜ IsReciprocalWord d r ⌝ }
+{
+    let dr = (d - 1) / HALF + 1;
+    let seed = entry_for(d) as u64 * 0x100_0000;
+    refined(dr, refined(dr, seed))
+}
+
+// A Newton step.
+fn refined(dr: u64, x: u64) -> u64
+    requires { ⌜ HasProducts dr x ⌝ }
+    ensures { λ r. ⌜ r ≡ refinedWord dr x ⌝ }
+{
+    let turned = 0x1_FFFF_FFFD - x * dr / HALF_OF_HALF;
+    x * turned / HALF
+}

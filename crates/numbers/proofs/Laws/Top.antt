@@ -1,0 +1,151 @@
+-- Rounding a magnitude F of 128 bits with its top bit set: its upper n bits are the whole number, and a word and a flag stand for the fraction.
+use mathlib.Core.Path.{_≡_, sym, ap, _∙_}
+use mathlib.Core.Bool.{Bool, false, cond}
+use Prim.Native.Nat.{ℕ, zero, suc, _+_, _-_, _*_, _/_, _%_, _^_, _≤_, _<_}
+use native.Mathlib.Omega.{arith}
+use native.Mathlib.Nat.{add-comm, add-zero, le-antisymm, le-of-eq, le-trans, lt-irrefl, lt-of-le-of-lt, lt-of-lt-of-le, mod-eq-of-lt, mul-assoc, mul-comm, mul-one, mul-le-mul, mul-lt-mul-of-pos-right, le-of-mul-le-mul-right, lt-of-mul-lt-mul-right, div-lt-iff-lt-mul, pow-succ'}
+use lib.Arith.{digits-div, digits-mod}
+use lib.Dec.{ltb, eqb}
+use lib.Ieee.{minus}
+use lib.IntN.{ℤ, natAbs, sucℤ}
+use lib.Pow.{pow-add, pow-pos}
+use borrow.Author.Tests.{eq-eqb, ne-eqb}
+use Rattle.numbers.specs.Number.{isWorkingExponent}
+use Rattle.numbers.specs.Fraction.{IsFraction}
+use Rattle.numbers.specs.Rounding.{goesUp, wholeOf, placed, isNegative, round}
+use Rattle.numbers.specs.Answer.{claimed, judged}
+use Rattle.numbers.specs.Grid.{InCell, digit}
+use Rattle.numbers.specs.declared.number.Number.the-variants.{Finite}
+use Rattle.numbers.specs.declared.task.Mode.{Mode}
+use Rattle.numbers.specs.declared.task.Mode.the-variants.{Trunc}
+use Rattle.numbers.proofs.Laws.Cell.{cell-ratio, round-cell, claim-cell}
+use Rattle.numbers.proofs.Laws.Powers.{word-power}
+use Rattle.numbers.proofs.Laws.Signs.{abs-signed, negative-signed}
+use Rattle.numbers.proofs.Laws.Tests.{zero-same}
+use Rattle.numbers.proofs.Laws.Value.{cell-of, whole-alone, fraction-alone}
+use Rattle.numbers.proofs.Laws.Whole.{whole-cell, fraction-cell, flagged}
+use Rattle.numbers.specs.Cell.{wide}
+use Rattle.numbers.specs.Magnitude.{scaledValue}
+
+-- 2^(128 - n) is a word above 2^(64 - n)
+pub word-above : (n : ℕ) → n ≤ 64 → 2 ^ (64 - n) * 2 ^ 64 ≡ 2 ^ (128 - n)
+word-above n h = sym (pow-add 2 (64 - n) 64) ∙ ap (λ (m : ℕ). 2 ^ m) (let e : 64 - n + 64 ≡ 128 - n = omega arith in e)
+
+module _ (F n high low : ℕ) (rest : Bool) (n1 : n ≤ 64) (word : low < 2 ^ 64)
+    (shifted : wide high low ≡ F / 2 ^ (64 - n)) (dropped : rest ≡ ltb 0 (F % 2 ^ (64 - n))) where
+  cell : InCell rest (F * (2 * 2 ^ 63)) (wide high low) (2 ^ (128 - n))
+  cell =
+      cell-ratio rest F (wide high low) (2 ^ (64 - n)) (F * (2 * 2 ^ 63)) (2 ^ (128 - n)) (2 ^ 64) 1 (pow-pos 64) (pow-pos 0) (sym (mul-one (F * (2 * 2 ^ 63))))
+      (word-above n n1 ∙ sym (mul-one (2 ^ (128 - n))))
+      (rw (shifted, dropped) (cell-of F (2 ^ (64 - n)) (pow-pos (64 - n))))
+
+  upper : wide high low / 2 ^ 64 ≡ high
+  unfolding wide
+  upper = digits-div high word
+
+  lower : wide high low % 2 ^ 64 ≡ low
+  unfolding wide
+  lower = digits-mod high word
+
+  pub top-whole : (mode : Mode) (negative : Bool) → wholeOf mode negative F (2 ^ (128 - n)) ≡ high + cond (goesUp mode negative high (2 * low + digit rest) (2 ^ 65)) 1 0
+  unfolding wholeOf
+  top-whole mode negative =
+      whole-cell rest F (2 ^ (128 - n)) (wide high low) (2 ^ 63) (pow-pos (128 - n)) (pow-pos 63) cell mode negative
+      ∙ rw (flagged rest (wide high low) (2 ^ 64) (pow-pos 64) .0, flagged rest (wide high low) (2 ^ 64) (pow-pos 64) .1, upper, lower)
+
+  pub top-bits : ltb 0 (F % 2 ^ (128 - n)) ≡ ltb 0 (2 * low + digit rest)
+  top-bits =
+      fraction-cell rest F (2 ^ (128 - n)) (wide high low) (2 ^ 63) (pow-pos (128 - n)) (pow-pos 63) cell
+      ∙ rw (flagged rest (wide high low) (2 ^ 64) (pow-pos 64) .1, lower)
+
+  pub high-small : F < 2 ^ 128 → high < 2 ^ n
+  unfolding wide
+  high-small F1 =
+      lt-of-mul-lt-mul-right (2 ^ 64)
+      (lt-of-le-of-lt (le-of-wide high low (F / 2 ^ (64 - n)) shifted)
+      (div-lt-iff-lt-mul (pow-pos (64 - n)) .1 (rw (mul-assoc (2 ^ n) (2 ^ 64) (2 ^ (64 - n)), mul-comm (2 ^ 64) (2 ^ (64 - n)), word-above n n1, ← pow-add 2 n (128 - n)) (rw (whole-width n n1) F1))))
+    where
+      le-of-wide : (h l q : ℕ) → h * 2 ^ 64 + l ≡ q → h * 2 ^ 64 ≤ q
+      le-of-wide h l q e = omega arith
+
+      whole-width : (n : ℕ) → n ≤ 64 → n + (128 - n) ≡ 128
+      whole-width n h = omega arith
+
+-- The whole number q + 1 or q of n bits as a significand: the unit 2^(64 - n) is added in the last place, and passes 2^64 where q + 1 is 2^n.
+module _ (negative : Bool) (e : ℤ) (n q : ℕ) (n1 : n ≤ 64) (q1 : q < 2 ^ n) where
+  pub significand-is : q * 2 ^ (64 - n) % 2 ^ 64 ≡ q * 2 ^ (64 - n)
+  significand-is = mod-eq-of-lt (lt-of-lt-of-le (mul-lt-mul-of-pos-right q1 (pow-pos (64 - n))) (le-of-eq (word-power n n1)))
+
+  pub placed-same : placed negative e n (q + 0) ≡ Finite negative e (q * 2 ^ (64 - n))
+  unfolding placed
+  placed-same = rw (ne-eqb (q + 0) (2 ^ n) (λ (z : q + 0 ≡ 2 ^ n). omega arith), add-zero q)
+
+  pub placed-carry : 2 ^ 64 ≤ q * 2 ^ (64 - n) + 2 ^ (64 - n) → placed negative e n (q + 1) ≡ Finite negative (sucℤ e) (2 ^ 63)
+  unfolding placed
+  placed-carry h =
+      rw (eq-eqb (q + 1) (2 ^ n) (le-antisymm (le-of-suc q1) (le-of-mul-le-mul-right {k = 2 ^ (64 - n)} (le-trans (le-of-eq (word-power n n1)) (le-trans h (grown q (2 ^ (64 - n))))) (pow-pos (64 - n)))))
+    where
+      le-of-suc : {a b : ℕ} → a < b → a + 1 ≤ b
+      le-of-suc l = omega arith
+
+      grown : (a u : ℕ) → a * u + u ≤ (a + 1) * u
+      grown a u = omega arith
+
+  pub placed-next : q * 2 ^ (64 - n) + 2 ^ (64 - n) < 2 ^ 64 → placed negative e n (q + 1) ≡ Finite negative e (q * 2 ^ (64 - n) + 2 ^ (64 - n))
+  unfolding placed
+  placed-next h = rw (ne-eqb (q + 1) (2 ^ n) (λ (z : q + 1 ≡ 2 ^ n). full z)) (ap (Finite negative e) (one-more q (2 ^ (64 - n))))
+    where
+      one-more : (a u : ℕ) → (a + 1) * u ≡ a * u + u
+      one-more a u = omega arith
+
+      full : q + 1 ≡ 2 ^ n → ⊥
+      full z = lt-irrefl (2 ^ 64) (lt-of-le-of-lt (le-of-eq (sym (word-power n n1) ∙ ap (λ (m : ℕ). m * 2 ^ (64 - n)) (sym z) ∙ one-more q (2 ^ (64 - n)))) h)
+
+-- the upper n bits, cut off, are what trunc gives
+pub upper-bits : (F n high low : ℕ) (rest : Bool) → n ≤ 64 → low < 2 ^ 64 → wide high low ≡ F / 2 ^ (64 - n) → rest ≡ ltb 0 (F % 2 ^ (64 - n)) → F < 2 ^ 128
+    → (negative : Bool) (e : ℤ) → Finite negative e (high * 2 ^ (64 - n) % 2 ^ 64) ≡ placed negative e n (wholeOf Trunc negative F (2 ^ (128 - n)))
+unfolding goesUp
+upper-bits F n high low rest n1 word shifted dropped F1 negative e =
+    let q1 = high-small F n high low rest n1 word shifted dropped F1 in
+    ap (Finite negative e) (significand-is negative e n high n1 q1)
+    ∙ sym (ap (placed negative e n) (top-whole F n high low rest n1 word shifted dropped Trunc negative) ∙ placed-same negative e n high n1 q1)
+
+-- sign × F × 2^x / 2^o, with z leading zeros above F
+module _ (negative : Bool) (F x z o n : ℕ) (n0 : 1 ≤ n) (n1 : n ≤ 64) (low : 2 ^ 127 ≤ F * 2 ^ z) (high : F * 2 ^ z < 2 ^ 128) where
+  F0 : 0 < F * 2 ^ x
+  F0 = mul-le-mul (positive F (2 ^ z) (le-trans (pow-pos 127) low)) (pow-pos x)
+    where
+      positive : (a b : ℕ) → 1 ≤ a * b → 1 ≤ a
+      positive zero b h = absurd (omega arith)
+      positive (suc a) b h = omega arith
+
+  exact-cell : InCell false (natAbs (scaledValue negative F x o .numerator) * 2 ^ (o + z)) (F * 2 ^ z) (scaledValue negative F x o .denominator * 2 ^ x)
+  unfolding scaledValue
+  exact-cell = rw (abs-signed negative (F * 2 ^ x), pow-add 2 o z) (omega arith)
+
+  is-fraction : IsFraction (scaledValue negative F x o)
+  unfolding IsFraction scaledValue
+  is-fraction = pow-pos o
+
+  sign : isNegative (scaledValue negative F x o .numerator) ≡ negative
+  unfolding scaledValue
+  sign = negative-signed negative (F * 2 ^ x) F0
+
+  below-bit : n ≤ 127
+  below-bit = omega arith
+
+  quotient : (2 * (F * 2 ^ z) + 0) * 2 ^ (128 - n) ≡ F * 2 ^ z * (2 * (2 * 2 ^ (127 - n)))
+  quotient = omega (arith, ap (λ (m : ℕ). F * 2 ^ z * m) (ap (λ (m : ℕ). 2 ^ m) (let e : 128 - n ≡ suc (127 - n) = omega arith in e) ∙ pow-succ' 2 (127 - n)))
+
+  bottom0 : 0 < 2 * (2 * 2 ^ (127 - n))
+  bottom0 = let p = pow-pos (127 - n) in omega arith
+
+  pub round-top : (mode : Mode) → round mode n (scaledValue negative F x o) ≡ placed negative (minus (x + 127) (o + z)) n (wholeOf mode negative (F * 2 ^ z) (2 ^ (128 - n)))
+  round-top mode =
+      round-cell (scaledValue negative F x o) false x (o + z) (F * 2 ^ z) 127 n is-fraction n0 below-bit low high exact-cell mode
+      ∙ rw (sign, add-comm 127 x, whole-alone (2 * (F * 2 ^ z) + 0) (2 * (2 * 2 ^ (127 - n))) (F * 2 ^ z) (2 ^ (128 - n)) bottom0 (pow-pos (128 - n)) quotient mode negative)
+
+  pub claim-top : claimed n (scaledValue negative F x o) ≡ judged (isWorkingExponent (minus (x + 127) (o + z))) (eqb (F * 2 ^ z % 2 ^ (128 - n)) 0) (round Trunc n (scaledValue negative F x o))
+  claim-top =
+      claim-cell (scaledValue negative F x o) false x (o + z) (F * 2 ^ z) 127 n is-fraction n0 below-bit low high exact-cell
+      ∙ rw (add-comm 127 x, zero-same ((2 * (F * 2 ^ z) + 0) % (2 * (2 * 2 ^ (127 - n)))) (F * 2 ^ z % 2 ^ (128 - n)) (fraction-alone (2 * (F * 2 ^ z) + 0) (2 * (2 * 2 ^ (127 - n))) (F * 2 ^ z) (2 ^ (128 - n)) bottom0 (pow-pos (128 - n)) quotient))

@@ -1,0 +1,153 @@
+-- `numbers::rounding::round_top` meets its contract: the upper n bits are the whole number that `wholeOf` starts from, and each way out places
+-- the whole number that `wholeOf` gives.
+use mathlib.Core.Path.{_≡_, sym, ap, ap₂, _∙_}
+use mathlib.Core.Bool.{Bool, true, false, cond}
+use Prim.Native.Nat.{ℕ, suc, _+_, _-_, _*_, _/_, _%_, _^_, _≤_, _<_}
+use native.Mathlib.Nat.{one-mul, mod-eq-of-lt}
+use native.Mathlib.Omega.{arith}
+use borrow.Author.Needs.{needs}
+use borrow.Author.Tests.{not-true, not-false}
+use lib.Dec.{ltb}
+use lib.Ieee.{minus}
+use lib.IntN.{ℤ}
+use lib.Pow.{pow-lt, pow-pos}
+use Rattle.numbers.specs.Answer.{checked}
+use Rattle.numbers.specs.Grid.{digit}
+use Rattle.numbers.specs.Rounding.{goesUp, wholeOf}
+use Rattle.numbers.specs.declared.number.Number.the-variants.{Finite}
+use Rattle.numbers.specs.declared.task.Mode.{Mode}
+use Rattle.numbers.proofs.Laws.Exponent.{suc-minus}
+use Rattle.numbers.specs.Cell.{wide}
+use Rattle.numbers.specs.Magnitude.{raise, roundedTop}
+use Rattle.numbers.proofs.Laws.Top.{top-whole, high-small, significand-is, placed-same, placed-carry, placed-next}
+use Rattle.numbers.proofs.rounding.round_top.Statement.{statement}
+use Rattle.numbers.proofs.rounding.round_top.Tie as tie
+
+module _ (mode : Mode) (negative : Bool) (x z F n high low : ℕ) (rest up : Bool) (n0 : 1 ≤ n) (n1 : n ≤ 64) (F1 : F < 2 ^ 128) (word : low < 2 ^ 64)
+    (shifted : wide high low ≡ F / 2 ^ (64 - n)) (dropped : rest ≡ ltb 0 (F % 2 ^ (64 - n)))
+    (decided : up ≡ goesUp mode negative high (2 * low + digit rest) (2 ^ 65)) where
+  abbrev e : ℤ
+  e = minus (x + 127) (raise + z)
+
+  whole : wholeOf mode negative F (2 ^ (128 - n)) ≡ high + cond up 1 0
+  whole = top-whole F n high low rest n1 word shifted dropped mode negative ∙ ap (λ (b : Bool). high + cond b 1 0) (sym decided)
+
+  small : high < 2 ^ n
+  small = high-small F n high low rest n1 word shifted dropped F1
+
+  stays : up ≡ false → checked (Finite negative e (high * 2 ^ (64 - n) % 2 ^ 64)) ≡ roundedTop mode negative e n F
+  unfolding roundedTop
+  stays h = ap checked (ap (Finite negative e) (significand-is negative e n high n1 small) ∙ sym (rw (whole, h) (placed-same negative e n high n1 small)))
+
+  unit-is : 1 * 2 ^ (64 - n) % 2 ^ 64 ≡ 2 ^ (64 - n)
+  unit-is = ap (λ (m : ℕ). m % 2 ^ 64) (one-mul (2 ^ (64 - n))) ∙ mod-eq-of-lt (pow-lt (shorter n n0))
+    where
+      shorter : (n : ℕ) → 1 ≤ n → 64 - n < 64
+      shorter n h = omega arith
+
+  carries : up ≡ true → (2 ^ 64 - 1) - high * 2 ^ (64 - n) % 2 ^ 64 < 1 * 2 ^ (64 - n) % 2 ^ 64
+      → checked (Finite negative (minus (x + 1 + 127) (raise + z)) (2 ^ 63)) ≡ roundedTop mode negative e n F
+  unfolding roundedTop
+  carries h l =
+      ap checked (ap (λ (f : ℤ). Finite negative f (2 ^ 63)) (ap (λ (i : ℕ). minus i (raise + z)) (one-later x) ∙ sym (suc-minus (x + 127) (raise + z)))
+      ∙ sym (rw (whole, h) (placed-carry negative e n high n1 small (passed (high * 2 ^ (64 - n) % 2 ^ 64) (1 * 2 ^ (64 - n) % 2 ^ 64) l (significand-is negative e n high n1 small) unit-is))))
+    where
+      one-later : (x : ℕ) → x + 1 + 127 ≡ suc (x + 127)
+      one-later x = omega arith
+
+      passed : (a b : ℕ) {s u : ℕ} → (2 ^ 64 - 1) - a < b → a ≡ s → b ≡ u → 2 ^ 64 ≤ s + u
+      passed a b l p q = omega arith
+
+  goes-on : up ≡ true → 1 * 2 ^ (64 - n) % 2 ^ 64 ≤ (2 ^ 64 - 1) - high * 2 ^ (64 - n) % 2 ^ 64
+      → checked (Finite negative e (high * 2 ^ (64 - n) % 2 ^ 64 + 1 * 2 ^ (64 - n) % 2 ^ 64)) ≡ roundedTop mode negative e n F
+  unfolding roundedTop
+  goes-on h l =
+      ap checked (ap (Finite negative e) (ap₂ _+_ (significand-is negative e n high n1 small) unit-is)
+      ∙ sym (rw (whole, h) (placed-next negative e n high n1 small (fits (high * 2 ^ (64 - n) % 2 ^ 64) (1 * 2 ^ (64 - n) % 2 ^ 64) l (significand-is negative e n high n1 small) unit-is (pow-pos (64 - n))))))
+    where
+      fits : (a b : ℕ) {s u : ℕ} → b ≤ (2 ^ 64 - 1) - a → a ≡ s → b ≡ u → 0 < u → s + u < 2 ^ 64
+      fits a b l p q u0 = omega arith
+
+sub-shift : tie.Need-sub-shift
+sub-shift c = omega arith
+
+shift-right-requires : tie.Need-shift-right-requires
+shift-right-requires c κs = search needs
+
+cast-significand : tie.Need-cast-significand
+cast-significand c = search needs
+
+shl-significand : tie.Need-shl-significand
+shl-significand c = omega arith
+
+goes-up-requires : tie.Need-goes-up-requires
+goes-up-requires c κs = search needs
+
+checked-requires : tie.Need-checked-requires
+checked-requires c κs = search needs
+
+returns : tie.Need-returns
+returns c =
+    let start = c .before .before .before .before .before .before in
+    let known = c .before .before .before in
+    c .checked .ensures
+    ∙ (stays _ _ _ _ _ _ _ _ (known .before .shift-right .result .rest) _ (start .pre .3) (start .pre .4) (start .pre .2) (known .struct-known2 .given .1 .0 .fits) (known .before .shift-right .ensures .0) (known .before .shift-right .ensures .1)
+    (c .before .before .goes-up .ensures) (not-true _ (c .before .if1 .taken)))
+
+cast-unit : tie.Need-cast-unit
+cast-unit c = search needs
+
+shl-unit : tie.Need-shl-unit
+shl-unit c = omega arith
+
+sub-if2 : tie.Need-sub-if2
+sub-if2 c = search needs
+
+add-checked : tie.Need-add-checked
+add-checked c = search needs
+
+checked-requires-2 : tie.Need-checked-requires-2
+checked-requires-2 c κs = search needs
+
+add-checked-2 : tie.Need-add-checked-2
+add-checked-2 c = search needs
+
+checked-requires-3 : tie.Need-checked-requires-3
+checked-requires-3 c κs = search needs
+
+returns-2 : tie.Need-returns-2
+returns-2 c =
+    let start = c .before .before .before .before .before .before .before in
+    let known = c .before .before .before .before in
+    c .checked2 .ensures
+    ∙ (carries _ _ _ _ _ _ _ _ (known .before .shift-right .result .rest) _ (start .pre .3) (start .pre .4) (start .pre .2) (known .struct-known2 .given .1 .0 .fits) (known .before .shift-right .ensures .0) (known .before .shift-right .ensures .1)
+    (c .before .before .before .goes-up .ensures) (not-false _ (c .before .before .if1 .left)) (c .before .if2 .taken))
+
+returns-3 : tie.Need-returns-3
+returns-3 c =
+    let start = c .before .before .before .before .before .before .before in
+    let known = c .before .before .before .before in
+    c .checked3 .ensures
+    ∙ (goes-on _ _ _ _ _ _ _ _ (known .before .shift-right .result .rest) _ (start .pre .3) (start .pre .4) (start .pre .2) (known .struct-known2 .given .1 .0 .fits) (known .before .shift-right .ensures .0) (known .before .shift-right .ensures .1)
+    (c .before .before .before .goes-up .ensures) (not-false _ (c .before .before .if1 .left)) (c .before .if2 .left))
+
+pub round-top-spec : {M : Type 1} → statement M
+round-top-spec =
+    tie.close
+    (tie.spec
+    sub-shift
+    shift-right-requires
+    cast-significand
+    shl-significand
+    goes-up-requires
+    checked-requires
+    returns
+    cast-unit
+    shl-unit
+    sub-if2
+    add-checked
+    checked-requires-2
+    add-checked-2
+    checked-requires-3
+    returns-2
+    returns-3)

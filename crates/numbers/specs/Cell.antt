@@ -1,0 +1,36 @@
+-- The rounding of a cell: what stands for a value that is known to two words, and to whether something nonzero lies below them. No sentence of document 01
+-- speaks of cells; an operation that works its exact result out to a cell rounds it here, once.
+use mathlib.Core.Bool.{Bool, not, cond}
+use Prim.Native.Nat.{ℕ, _+_, _*_, _/_, _^_}
+use lib.Ieee.{up, down}
+use lib.IntN.{ℤ, natAbs}
+use Rattle.numbers.specs.Fraction.{Fraction, signed}
+use Rattle.numbers.specs.Rounding.{precisionOf, isPrecision}
+use Rattle.numbers.specs.Answer.{Outcome, refused, rounded}
+use Rattle.numbers.specs.Grid.{InCell}
+use Rattle.numbers.specs.declared.task.Task.{Task}
+
+-- a magnitude of two words
+unfoldable pub wide : ℕ → ℕ → ℕ
+wide high low = high * 2 ^ 64 + low
+
+-- the magnitude of x lies in the cell that goes from F × 2^e to (F + 1) × 2^e: at its lower end, or, with a rest, strictly inside
+unfoldable pub LiesIn : Fraction → ℕ → Bool → ℤ → Type 0
+LiesIn x F rest e = InCell rest (natAbs (x .numerator) * down e) F (x .denominator * up e)
+
+-- the odd one of F and F + 1
+unfoldable pub oddOf : ℕ → ℕ
+oddOf F = F / 2 * 2 + 1
+
+-- What stands for every value of a cell: its lower end, or, with a rest, the odd one of its two ends. `every-value` shows that each value of a cell
+-- with two bits more than the task asks, or without a rest, is rounded as this one.
+unfoldable pub endOf : ℕ → Bool → ℕ
+endOf F rest = cond rest (oddOf F) F
+
+-- sign × F × 2^e
+unfoldable pub binary : Bool → ℕ → ℤ → Fraction
+binary negative F e = record { numerator = signed negative (F * up e); denominator = down e }
+
+-- What rounding a cell answers. Row 2: "precision not 1 to 64".
+unfoldable pub cellRounding : Bool → ℕ → Bool → ℤ → Task → Outcome
+cellRounding negative F rest e task = cond (not (isPrecision (precisionOf task))) (refused 2) (rounded task (binary negative (endOf F rest) e))

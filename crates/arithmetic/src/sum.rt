@@ -77,22 +77,22 @@ fn subtracted(large: Operand, small: Operand, task: Task) -> Answer
     ensures { λ r. ⌜ outcome r ≡ rounded task (sum (operandValue large) (operandValue small)) ⌝ }
 {
     let top = raised(large.significand);
-    let cell = shift_right(raised(small.significand), large.exponent - small.exponent);
+    let taken = shift_right(raised(small.significand), large.exponent - small.exponent);
     let less = difference(
         top,
         Words {
-            high: cell.high,
-            low: cell.low,
+            high: taken.high,
+            low: taken.low,
         },
     );
-    let left = difference(less, borrow(cell.rest));
+    let left = difference(less, borrow(taken.rest));
     rounded(
         large.negative,
         large.exponent + RAISED_STEP,
         Cell {
             high: left.high,
             low: left.low,
-            rest: cell.rest,
+            rest: taken.rest,
         },
         task,
     )

@@ -103,7 +103,8 @@ fn reciprocal_of(d: u64) -> u64
 {
     let dr = (d - 1) / HALF + 1;
     let seed = entry_for(d) as u64 * 0x100_0000;
-    refined(dr, refined(dr, seed))
+    let once = refined(dr, seed);
+    refined(dr, once)
 }
 
 // A Newton step.

@@ -89,6 +89,33 @@ module _ (D : ℕ) (d : IsSignificand D) where
             omega (arith, half-cube, half-square, last-close half D DR (2 * x) (2 * refinedWord DR x) near (next-closer x near) (2 * refinedWord DR (refinedWord DR x)) (next-closer (refinedWord DR x) again));
       }
 
+-- ---- products of halves, and a digit times a half
+
+pub product-fits : (a b : ℕ) → a < 2 ^ 32 → b < 2 ^ 32 → a * b < 2 ^ 64
+product-fits a b h k = digits-lt-product a b (omega arith) (omega arith)
+  where
+    digits-lt-product : (a b : ℕ) → a ≤ 2 ^ 32 - 1 → b ≤ 2 ^ 32 - 1 → a * b < 2 ^ 64
+    digits-lt-product a b h k = omega (arith, mul-le-mul h k)
+
+pub quotient-small : (a b : ℕ) → a < 2 ^ 32 → b < 2 ^ 32 → a * b / 2 ^ 36 < 2 ^ 28
+quotient-small a b h k = omega (arith, product-fits a b h k)
+
+module _ (a b e : ℕ) (h : a < 2 ^ 32) (k : b < 2 ^ 32) (l : e < 2 ^ 32) where
+  digit-product : a * b / 2 ^ 36 * e ≤ 2 ^ 60
+  digit-product =
+      let q : a * b / 2 ^ 36 ≤ 2 ^ 28 = omega (arith, quotient-small a b h k) in
+      let f : e ≤ 2 ^ 32 = omega arith in
+      omega (arith, mul-le-mul q f)
+
+  pub digit-product-fits : a * b / 2 ^ 36 * e < 2 ^ 64
+  digit-product-fits = omega (arith, digit-product)
+
+  pub digit-product-more : a * b / 2 ^ 36 * e + 2 ^ 29 < 2 ^ 64
+  digit-product-more = omega (arith, digit-product)
+
+  pub digit-product-lent : (r : ℕ) → a * b / 2 ^ 36 * e ≤ 2 ^ 61 + r
+  digit-product-lent r = omega (arith, digit-product)
+
 -- ---- a digit, w standing for 2^32: H is the upper half of the remainder R, and q is H X / 2^36, that is, 16 w
 
 module _ (w R H X D q : ℕ) (w0 : 0 < w) (d0 : 0 < D) (h0 : H * w ≤ R) (h1 : R < H * w + w) (r : R < D)
@@ -119,25 +146,19 @@ module _ (D X R : ℕ) (d : IsSignificand D) (x : IsReciprocalWord D X) (r : R <
   abbrev pub estimate : ℕ
   estimate = R / 2 ^ 32 * X / 2 ^ 36
 
-  pub estimate-fits : upper * X < 2 ^ 64
-  estimate-fits =
-      let a : upper ≤ 2 ^ 32 - 1 = omega (arith, d .word) in
-      let b : X ≤ 2 ^ 32 - 1 = omega (arith, x .word) in
-      omega (arith, mul-le-mul a b)
-
   pub estimate-small : estimate < 2 ^ 28
-  estimate-small = omega (arith, estimate-fits)
+  estimate-small = quotient-small upper X (omega (arith, d .word)) (x .word)
 
   pub estimate-below : estimate * D ≤ R * 2 ^ 27
   estimate-below =
       let bound = digit-below half R upper X D estimate (omega (arith, half-is)) (omega (arith, d .top)) (rw half-is (omega arith)) (rw half-is (omega arith)) r
-            (omega (arith, half-cube, x .under)) (omega (arith, half-cube, half-square, x .close)) (rw half-is (omega arith)) (rw half-is (omega arith)) (omega (arith, half-square, d .top)) in
+      (omega (arith, half-cube, x .under)) (omega (arith, half-cube, half-square, x .close)) (rw half-is (omega arith)) (rw half-is (omega arith)) (omega (arith, half-square, d .top)) in
       omega (arith, rw half-is at bound)
 
   pub estimate-above : R * 2 ^ 27 < (estimate + 2) * D
   estimate-above =
       let bound = digit-above half R upper X D estimate (omega (arith, half-is)) (omega (arith, d .top)) (rw half-is (omega arith)) (rw half-is (omega arith)) r
-            (omega (arith, half-cube, x .under)) (omega (arith, half-cube, half-square, x .close)) (rw half-is (omega arith)) (rw half-is (omega arith)) (omega (arith, half-square, d .top)) in
+      (omega (arith, half-cube, x .under)) (omega (arith, half-cube, half-square, x .close)) (rw half-is (omega arith)) (rw half-is (omega arith)) (omega (arith, half-square, d .top)) in
       omega (arith, rw half-is at bound)
 
 -- what is left of R × 2^27, in two halves of a word
@@ -148,16 +169,10 @@ module _ (D R q : ℕ) (word : D < 2 ^ 64) (small : q < 2 ^ 28) (below : q * D �
   parts : q * D ≡ q * (D / 2 ^ 32) * 2 ^ 32 + q * (D % 2 ^ 32)
   parts = ap (λ (n : ℕ). q * n) (sym (div-add-mod' D (2 ^ 32))) ∙ omega arith
 
-  pub low-product : q * (D % 2 ^ 32) < 2 ^ 60
+  low-product : q * (D % 2 ^ 32) < 2 ^ 60
   low-product =
       let a : q ≤ 2 ^ 28 - 1 = omega arith in
       let b : D % 2 ^ 32 ≤ 2 ^ 32 - 1 = omega arith in
-      omega (arith, mul-le-mul a b)
-
-  pub high-product : q * (D / 2 ^ 32) < 2 ^ 60
-  high-product =
-      let a : q ≤ 2 ^ 28 - 1 = omega arith in
-      let b : D / 2 ^ 32 ≤ 2 ^ 32 - 1 = omega arith in
       omega (arith, mul-le-mul a b)
 
   pub left-fits : q * (D / 2 ^ 32) + 2 ^ 29 ≤ R / 2 ^ 32 * 2 ^ 27 + low / 2 ^ 32

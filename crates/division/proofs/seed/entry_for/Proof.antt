@@ -1,5 +1,4 @@
 -- `division::seed::entry_for` meets its contract: the rule, computed over the whole table, is the table that the code has, and so each entry is the rule's.
-use native.Mathlib.Nat.{mod-lt}
 use native.Mathlib.Omega.{arith}
 use borrow.Author.Needs.{needs}
 use Rattle.division.specs.Steps.{nearest, entryOf, indexOf}
@@ -12,7 +11,7 @@ array-read-result c = search needs
 
 returns : tie.Need-returns
 unfolding nearest entryOf indexOf
-returns c = at-entry entryOf 128 _ (mod-lt _ (omega arith))
+returns c = at-entry entryOf 128 _ (omega arith)
 
 pub entry-for-spec : {M : Type 1} → statement M
 entry-for-spec = tie.close (tie.spec array-read-result returns)

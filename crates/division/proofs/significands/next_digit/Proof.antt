@@ -5,7 +5,7 @@ use native.Mathlib.Omega.{arith}
 use borrow.Author.Needs.{needs}
 use mir.Facts.{fits-of-lt}
 use Rattle.division.specs.Words.{IsSignificand, IsReciprocalWord, IsQuotient}
-use Rattle.division.proofs.Laws.Words.{estimate, estimate-fits, estimate-small, estimate-below, estimate-above, low-product, high-product, left-fits, left-is, stays, goes-up, remainder-fits}
+use Rattle.division.proofs.Laws.Words.{product-fits, digit-product-fits, digit-product-more, digit-product-lent, estimate, estimate-small, estimate-below, estimate-above, left-fits, left-is, stays, goes-up, remainder-fits}
 use Rattle.division.proofs.significands.next_digit.Statement.{statement}
 use Rattle.division.proofs.significands.next_digit.Tie as tie
 
@@ -21,12 +21,6 @@ module _ {D X R : ℕ} (d : IsSignificand D) (x : IsReciprocalWord D X) (r : R <
 
   above : R * 2 ^ 27 < (q + 2) * D
   above = estimate-above D X R d x r
-
-  low-fits : q * (D % 2 ^ 32) < 2 ^ 60
-  low-fits = low-product D R q (d .word) small below
-
-  high-fits : q * (D / 2 ^ 32) < 2 ^ 60
-  high-fits = high-product D R q (d .word) small below
 
   abbrev low : ℕ
   low = 2 ^ 61 + R % 2 ^ 32 * 2 ^ 27 - q * (D % 2 ^ 32)
@@ -63,7 +57,7 @@ module _ {D X R : ℕ} (d : IsSignificand D) (x : IsReciprocalWord D X) (r : R <
   fits h = remainder-fits D (R * 2 ^ 27) q left1 left0 left half-word above (d .word) h
 
 mul-digit : tie.Need-mul-digit
-mul-digit c = fits-of-lt (estimate-fits _ _ _ (c .pre .0) (c .pre .1) (c .pre .2))
+mul-digit c = fits-of-lt (product-fits _ _ (omega (arith, c .fits .remainder .fits)) (c .pre .1 .word))
 
 mul-low : tie.Need-mul-low
 mul-low c = search needs
@@ -72,10 +66,10 @@ add-low : tie.Need-add-low
 add-low c = search needs
 
 mul-low-2 : tie.Need-mul-low-2
-mul-low-2 c = record { fits = omega (arith, low-fits (c .pre .0) (c .pre .1) (c .pre .2)) }
+mul-low-2 c = fits-of-lt (digit-product-fits _ _ _ (omega (arith, c .fits .remainder .fits)) (c .pre .1 .word) (omega arith))
 
 sub-low : tie.Need-sub-low
-sub-low c = omega (arith, low-fits (c .pre .0) (c .pre .1) (c .pre .2))
+sub-low c = digit-product-lent _ _ _ (omega (arith, c .fits .remainder .fits)) (c .pre .1 .word) (omega arith) _
 
 mul-left1 : tie.Need-mul-left1
 mul-left1 c = search needs
@@ -84,10 +78,10 @@ add-left1 : tie.Need-add-left1
 add-left1 c = search needs
 
 mul-left1-2 : tie.Need-mul-left1-2
-mul-left1-2 c = record { fits = omega (arith, high-fits (c .pre .0) (c .pre .1) (c .pre .2)) }
+mul-left1-2 c = fits-of-lt (digit-product-fits _ _ _ (omega (arith, c .fits .remainder .fits)) (c .pre .1 .word) (omega (arith, c .pre .0 .word)))
 
 add-left1-2 : tie.Need-add-left1-2
-add-left1-2 c = record { fits = omega (arith, high-fits (c .pre .0) (c .pre .1) (c .pre .2)) }
+add-left1-2 c = fits-of-lt (digit-product-more _ _ _ (omega (arith, c .fits .remainder .fits)) (c .pre .1 .word) (omega (arith, c .pre .0 .word)))
 
 sub-left1 : tie.Need-sub-left1
 sub-left1 c = taken-off (c .pre .0) (c .pre .1) (c .pre .2)

@@ -37,7 +37,10 @@ refined-requires : tie.Need-refined-requires
 refined-requires c κs = first _ _ (c .before .pre) (c .entry-for .ensures)
 
 refined-requires-2 : tie.Need-refined-requires-2
-refined-requires-2 c κs = second _ _ (c .before .before .pre) (c .before .entry-for .ensures) _ (c .refined .ensures)
+refined-requires-2 c κs =
+    let start = c .before .before in
+    let entry = c .before .entry-for .ensures in
+    search (first _ _ (start .pre) entry, second _ _ (start .pre) entry _ (c .refined .ensures))
 
 returns : tie.Need-returns
 returns c = twice _ _ (c .before .before .before .pre) (c .before .before .entry-for .ensures) _ _ (c .before .refined .ensures) (c .refined2 .ensures)

@@ -5,7 +5,7 @@ ghost use Prim.Native.Nat.{_≤_};
 ghost use lib.Ieee.{minus};
 ghost use Rattle.numbers.specs.Fraction.{Equal, value};
 ghost use Rattle.numbers.specs.Number.{isWorkingExponent, isWorking};
-ghost use Rattle.arithmetic.specs.Magnitude.{operandValue, IsOperand};
+ghost use Rattle.arithmetic.specs.Private.{operandValue, IsOperand};
 use numbers::number::Number;
 
 // What is added to a working exponent, so that exponents are numbers from 0 to 131,071.

@@ -3,26 +3,27 @@
 // refused.
 ghost use mathlib.Core.Path.{_≡_};
 ghost use mathlib.Core.Bool.{true};
-ghost use Prim.Native.Nat.{_≤_};
-ghost use Rattle.numbers.specs.Answer.{outcome, rounded};
-ghost use Rattle.numbers.specs.Fraction.{value, product};
+ghost use Rattle.numbers.specs.Answer.{outcome};
+ghost use Rattle.numbers.specs.Fraction.{value, sum, difference, product};
 ghost use Rattle.numbers.specs.Number.{isWorking};
-ghost use Rattle.numbers.specs.Rounding.{precisionOf};
-ghost use Rattle.arithmetic.specs.Magnitude.{operandValue, IsOperand};
-ghost use Rattle.arithmetic.specs.Operations.{exactOf, operationOf, roundingOf, codedOf, sumOf, differenceOf, productOf};
+ghost use Rattle.arithmetic.specs.Private.{operandValue, IsOperand, IsExact};
+ghost use Rattle.arithmetic.specs.Operations.{exactOf, operationOf, roundingOf, sumOf, differenceOf, productOf};
+use super::judgement::Judgement;
+use super::judgement::judged;
 use super::magnitude::product;
 use super::operand::Operand;
 use super::operand::operand_of;
+use super::rounding::Exact;
 use super::rounding::rounded;
-use super::sum::rounded_sum;
+use super::sum::sum_of;
 use numbers::answer::Answer;
 use numbers::number::Number;
 use numbers::number::is_working;
 use numbers::number::negated;
 use numbers::task::Task;
-use numbers::task::is_precise;
+use numbers::task::is_precision;
+use numbers::task::precision_of;
 use numbers::task::task_of;
-use numbers::words::Cell;
 
 // The last mode code.
 const LAST_CODE: u32 = 6;
@@ -34,31 +35,45 @@ const UNRAISED_STEP: u32 = 65_598;
 pub fn add(a: Number, b: Number, code: u32, precision: u32) -> Answer
     ensures { λ r. ⌜ outcome r ≡ sumOf a b code precision ⌝ }
 {
-    coded(Operation::Sum, a, b, code, precision)
+    if LAST_CODE < code {
+        return Answer::UnknownMode;
+    }
+    match judged(a, b, precision) {
+        Judgement::BadPrecision => Answer::BadPrecision,
+        Judgement::FirstUnfit => Answer::FirstUnfit,
+        Judgement::SecondUnfit => Answer::SecondUnfit,
+        Judgement::Fit => rounded(exact_sum(a, b), task_of(code, precision)),
+    }
 }
 
 // a − b.
 pub fn subtract(a: Number, b: Number, code: u32, precision: u32) -> Answer
     ensures { λ r. ⌜ outcome r ≡ differenceOf a b code precision ⌝ }
 {
-    coded(Operation::Difference, a, b, code, precision)
+    if LAST_CODE < code {
+        return Answer::UnknownMode;
+    }
+    match judged(a, b, precision) {
+        Judgement::BadPrecision => Answer::BadPrecision,
+        Judgement::FirstUnfit => Answer::FirstUnfit,
+        Judgement::SecondUnfit => Answer::SecondUnfit,
+        Judgement::Fit => rounded(exact_difference(a, b), task_of(code, precision)),
+    }
 }
 
 // a × b.
 pub fn multiply(a: Number, b: Number, code: u32, precision: u32) -> Answer
     ensures { λ r. ⌜ outcome r ≡ productOf a b code precision ⌝ }
 {
-    coded(Operation::Product, a, b, code, precision)
-}
-
-// The operation by the task that a mode code and a precision name.
-fn coded(operation: Operation, a: Number, b: Number, code: u32, precision: u32) -> Answer
-    ensures { λ r. ⌜ outcome r ≡ codedOf (exactOf operation) a b code precision ⌝ }
-{
     if LAST_CODE < code {
         return Answer::UnknownMode;
     }
-    operate(operation, a, b, task_of(code, precision))
+    match judged(a, b, precision) {
+        Judgement::BadPrecision => Answer::BadPrecision,
+        Judgement::FirstUnfit => Answer::FirstUnfit,
+        Judgement::SecondUnfit => Answer::SecondUnfit,
+        Judgement::Fit => rounded(exact_product(a, b), task_of(code, precision)),
+    }
 }
 
 // An operation on two numbers.
@@ -72,77 +87,86 @@ pub enum Operation {
 pub fn operate(operation: Operation, a: Number, b: Number, task: Task) -> Answer
     ensures { λ r. ⌜ outcome r ≡ operationOf (exactOf operation) a b task ⌝ }
 {
-    if !is_precise(task) {
-        return Answer::BadPrecision;
+    match judged(a, b, precision_of(task)) {
+        Judgement::BadPrecision => Answer::BadPrecision,
+        Judgement::FirstUnfit => Answer::FirstUnfit,
+        Judgement::SecondUnfit => Answer::SecondUnfit,
+        Judgement::Fit => rounded(exact_of(operation, a, b), task),
     }
-    if !is_working(a) {
-        return Answer::FirstUnfit;
-    }
-    if !is_working(b) {
-        return Answer::SecondUnfit;
-    }
-    answer_of(operation, a, b, task)
 }
 
 // x by itself by a task.
 pub fn round(x: Number, task: Task) -> Answer
     ensures { λ r. ⌜ outcome r ≡ roundingOf x task ⌝ }
 {
-    if !is_precise(task) {
+    if !is_precision(precision_of(task)) {
         return Answer::BadPrecision;
     }
     if is_working(x) {
-        rounded_operand(operand_of(x), task)
+        rounded(exact_operand(operand_of(x)), task)
     } else {
         Answer::FirstUnfit
     }
 }
 
-// The answer for two working numbers: the exact operation, rounded once by the task.
-fn answer_of(operation: Operation, a: Number, b: Number, task: Task) -> Answer
-    requires { ⌜ (isWorking a ≡ true) × (isWorking b ≡ true) × (1 ≤ precisionOf task) × (precisionOf task ≤ 64) ⌝ }
-    ensures { λ r. ⌜ outcome r ≡ rounded task (exactOf operation (value a) (value b)) ⌝ }
+// The exact operation on two working numbers.
+fn exact_of(operation: Operation, a: Number, b: Number) -> Exact
+    requires { ⌜ (isWorking a ≡ true) × (isWorking b ≡ true) ⌝ }
+    ensures { λ r. ⌜ IsExact r (exactOf operation (value a) (value b)) ⌝ }
 {
-    let x = operand_of(a);
     match operation {
-        Operation::Sum => rounded_sum(x, operand_of(b), task),
-        Operation::Difference => rounded_sum(x, operand_of(negated(b)), task),
-        Operation::Product => rounded_product(x, operand_of(b), task),
+        Operation::Sum => exact_sum(a, b),
+        Operation::Difference => exact_difference(a, b),
+        Operation::Product => exact_product(a, b),
     }
 }
 
-// a × b, rounded by the task: the significands' product is exact in two words.
-fn rounded_product(a: Operand, b: Operand, task: Task) -> Answer
-    requires { ⌜ IsOperand a × IsOperand b × (1 ≤ precisionOf task) × (precisionOf task ≤ 64) ⌝ }
-    ensures { λ r. ⌜ outcome r ≡ rounded task (product (operandValue a) (operandValue b)) ⌝ }
+fn exact_sum(a: Number, b: Number) -> Exact
+    requires { ⌜ (isWorking a ≡ true) × (isWorking b ≡ true) ⌝ }
+    ensures { λ r. ⌜ IsExact r (sum (value a) (value b)) ⌝ }
 {
-    let negative = a.negative != b.negative;
-    let magnitude = product(a.significand, b.significand);
-    rounded(
-        negative,
-        a.exponent + b.exponent,
-        Cell {
-            high: magnitude.high,
-            low: magnitude.low,
-            rest: false,
-        },
-        task,
-    )
+    sum_of(operand_of(a), operand_of(b))
 }
 
-// a, rounded by the task.
-fn rounded_operand(a: Operand, task: Task) -> Answer
-    requires { ⌜ IsOperand a × (1 ≤ precisionOf task) × (precisionOf task ≤ 64) ⌝ }
-    ensures { λ r. ⌜ outcome r ≡ rounded task (operandValue a) ⌝ }
+fn exact_difference(a: Number, b: Number) -> Exact
+    requires { ⌜ (isWorking a ≡ true) × (isWorking b ≡ true) ⌝ }
+    ensures { λ r. ⌜ IsExact r (difference (value a) (value b)) ⌝ }
 {
-    rounded(
-        a.negative,
-        a.exponent + UNRAISED_STEP,
-        Cell {
-            high: 0,
-            low: a.significand,
-            rest: false,
-        },
-        task,
-    )
+    exact_sum(a, negated(b))
+}
+
+fn exact_product(a: Number, b: Number) -> Exact
+    requires { ⌜ (isWorking a ≡ true) × (isWorking b ≡ true) ⌝ }
+    ensures { λ r. ⌜ IsExact r (product (value a) (value b)) ⌝ }
+{
+    product_of(operand_of(a), operand_of(b))
+}
+
+// a × b: the significands' product is exact in two words.
+fn product_of(a: Operand, b: Operand) -> Exact
+    requires { ⌜ IsOperand a × IsOperand b ⌝ }
+    ensures { λ r. ⌜ IsExact r (product (operandValue a) (operandValue b)) ⌝ }
+{
+    let magnitude = product(a.significand, b.significand);
+    Exact {
+        negative: a.negative != b.negative,
+        exponent: a.exponent + b.exponent,
+        high: magnitude.high,
+        low: magnitude.low,
+        rest: false,
+    }
+}
+
+// a.
+fn exact_operand(a: Operand) -> Exact
+    requires { ⌜ IsOperand a ⌝ }
+    ensures { λ r. ⌜ IsExact r (operandValue a) ⌝ }
+{
+    Exact {
+        negative: a.negative,
+        exponent: a.exponent + UNRAISED_STEP,
+        high: 0,
+        low: a.significand,
+        rest: false,
+    }
 }

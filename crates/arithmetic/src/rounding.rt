@@ -1,12 +1,10 @@
-// Rounding by the exponents of operands: the two-word magnitude F at the exponent x stands for
-// F × 2^(x − 131,196).
+// An exact value up to a cell, and its rounding. Exponents are those of operands: the two-word magnitude
+// F at the exponent x stands for F × 2^(x − 131,196).
 ghost use mathlib.Core.Path.{_≡_};
 ghost use Prim.Native.Nat.{_≤_};
 ghost use Rattle.numbers.specs.Answer.{outcome, rounded};
-ghost use Rattle.numbers.specs.Cell.{wide, endOf};
-ghost use Rattle.numbers.specs.Magnitude.{scaledValue};
 ghost use Rattle.numbers.specs.Rounding.{precisionOf};
-ghost use Rattle.arithmetic.specs.Magnitude.{lastBit};
+ghost use Rattle.arithmetic.specs.Private.{exactValue};
 use numbers::answer::Answer;
 use numbers::rounding::round_cell;
 use numbers::task::Task;
@@ -14,10 +12,30 @@ use numbers::words::Cell;
 
 const LAST_BIT: i32 = 131_196;
 
-// A cell rounded once, or claimed exact, by its task.
-pub(crate) fn rounded(negative: bool, exponent: u32, cell: Cell, task: Task) -> Answer
-    requires { ⌜ (exponent ≤ 262142) × (1 ≤ precisionOf task) × (precisionOf task ≤ 64) ⌝ }
-    ensures { λ r. ⌜ outcome r ≡ rounded task (scaledValue negative (endOf (wide (cell .high) (cell .low)) (cell .rest)) exponent lastBit) ⌝ }
+// A sign, an exponent, a magnitude in two words, and whether something nonzero lies below its last bit.
+pub(crate) struct Exact {
+    pub negative: bool,
+    pub exponent: u32,
+    pub high: u64,
+    pub low: u64,
+    pub rest: bool,
+}
+
+// A value rounded once, or claimed exact, by its task.
+pub(crate) fn rounded(x: Exact, task: Task) -> Answer
+    requires { ⌜ (x .exponent ≤ 262142) × (1 ≤ precisionOf task) × (precisionOf task ≤ 64) ⌝ }
+    ensures { λ r. ⌜ outcome r ≡ rounded task (exactValue x) ⌝ }
 {
-    round_cell(negative, cell, exponent as i32 - LAST_BIT, task)
+    let negative = x.negative;
+    let exponent = x.exponent as i32 - LAST_BIT;
+    round_cell(
+        negative,
+        Cell {
+            high: x.high,
+            low: x.low,
+            rest: x.rest,
+        },
+        exponent,
+        task,
+    )
 }

@@ -1,22 +1,17 @@
-// The sum of two operands. The larger one stands with its top bit at bit 126 of a two-word
+// The exact sum of two operands, up to a cell. The larger one stands with its top bit at bit 126 of a two-word
 // magnitude, the smaller one is shifted right to it, and what is shifted out leaves a rest.
 ghost use mathlib.Core.Path.{_≡_};
 ghost use mathlib.Core.Bool.{not};
 ghost use Prim.Native.Nat.{_*_, _^_, _≤_};
-ghost use Rattle.numbers.specs.Rounding.{precisionOf};
-ghost use Rattle.numbers.specs.Answer.{outcome, rounded};
 ghost use Rattle.numbers.specs.Fraction.{sum};
 ghost use Rattle.numbers.specs.Grid.{digit};
 ghost use Rattle.numbers.specs.Cell.{wide};
-ghost use Rattle.arithmetic.specs.Magnitude.{operandValue, IsOperand, IsAligned};
+ghost use Rattle.arithmetic.specs.Private.{operandValue, IsOperand, IsAligned, IsExact};
 use super::magnitude::difference;
 use super::magnitude::sum;
 use super::operand::Operand;
-use super::rounding::rounded;
-use numbers::answer::Answer;
+use super::rounding::Exact;
 use numbers::number::TOP_BIT;
-use numbers::task::Task;
-use numbers::words::Cell;
 use numbers::words::Words;
 use numbers::words::shift_right;
 
@@ -45,9 +40,9 @@ fn borrow(rest: bool) -> Words
 }
 
 // The sum of a larger and a smaller operand of one sign.
-fn added(large: Operand, small: Operand, task: Task) -> Answer
-    requires { ⌜ IsAligned large small × (small .negative ≡ large .negative) × (1 ≤ precisionOf task) × (precisionOf task ≤ 64) ⌝ }
-    ensures { λ r. ⌜ outcome r ≡ rounded task (sum (operandValue large) (operandValue small)) ⌝ }
+fn added(large: Operand, small: Operand) -> Exact
+    requires { ⌜ IsAligned large small × (small .negative ≡ large .negative) ⌝ }
+    ensures { λ r. ⌜ IsExact r (sum (operandValue large) (operandValue small)) ⌝ }
 {
     let top = raised(large.significand);
     let cell = shift_right(raised(small.significand), large.exponent - small.exponent);
@@ -58,23 +53,20 @@ fn added(large: Operand, small: Operand, task: Task) -> Answer
             low: cell.low,
         },
     );
-    rounded(
-        large.negative,
-        large.exponent + RAISED_STEP,
-        Cell {
-            high: joined.high,
-            low: joined.low,
-            rest: cell.rest,
-        },
-        task,
-    )
+    Exact {
+        negative: large.negative,
+        exponent: large.exponent + RAISED_STEP,
+        high: joined.high,
+        low: joined.low,
+        rest: cell.rest,
+    }
 }
 
 // The sum of a larger and a smaller operand of two signs. Where there is a rest, the exact difference
 // lies in the cell below, so one more is taken off.
-fn subtracted(large: Operand, small: Operand, task: Task) -> Answer
-    requires { ⌜ IsAligned large small × (small .negative ≡ not (large .negative)) × (1 ≤ precisionOf task) × (precisionOf task ≤ 64) ⌝ }
-    ensures { λ r. ⌜ outcome r ≡ rounded task (sum (operandValue large) (operandValue small)) ⌝ }
+fn subtracted(large: Operand, small: Operand) -> Exact
+    requires { ⌜ IsAligned large small × (small .negative ≡ not (large .negative)) ⌝ }
+    ensures { λ r. ⌜ IsExact r (sum (operandValue large) (operandValue small)) ⌝ }
 {
     let top = raised(large.significand);
     let taken = shift_right(raised(small.significand), large.exponent - small.exponent);
@@ -86,43 +78,40 @@ fn subtracted(large: Operand, small: Operand, task: Task) -> Answer
         },
     );
     let left = difference(less, borrow(taken.rest));
-    rounded(
-        large.negative,
-        large.exponent + RAISED_STEP,
-        Cell {
-            high: left.high,
-            low: left.low,
-            rest: taken.rest,
-        },
-        task,
-    )
+    Exact {
+        negative: large.negative,
+        exponent: large.exponent + RAISED_STEP,
+        high: left.high,
+        low: left.low,
+        rest: taken.rest,
+    }
 }
 
 // The sum of a larger and a smaller operand.
-fn aligned(large: Operand, small: Operand, task: Task) -> Answer
-    requires { ⌜ IsAligned large small × (1 ≤ precisionOf task) × (precisionOf task ≤ 64) ⌝ }
-    ensures { λ r. ⌜ outcome r ≡ rounded task (sum (operandValue large) (operandValue small)) ⌝ }
+fn aligned(large: Operand, small: Operand) -> Exact
+    requires { ⌜ IsAligned large small ⌝ }
+    ensures { λ r. ⌜ IsExact r (sum (operandValue large) (operandValue small)) ⌝ }
 {
     if large.negative == small.negative {
-        added(large, small, task)
+        added(large, small)
     } else {
-        subtracted(large, small, task)
+        subtracted(large, small)
     }
 }
 
-// a + b, rounded by the task.
-pub(crate) fn rounded_sum(a: Operand, b: Operand, task: Task) -> Answer
-    requires { ⌜ IsOperand a × IsOperand b × (1 ≤ precisionOf task) × (precisionOf task ≤ 64) ⌝ }
-    ensures { λ r. ⌜ outcome r ≡ rounded task (sum (operandValue a) (operandValue b)) ⌝ }
+// a + b.
+pub(crate) fn sum_of(a: Operand, b: Operand) -> Exact
+    requires { ⌜ IsOperand a × IsOperand b ⌝ }
+    ensures { λ r. ⌜ IsExact r (sum (operandValue a) (operandValue b)) ⌝ }
 {
     if a.exponent < b.exponent {
-        return aligned(b, a, task);
+        return aligned(b, a);
     }
     if b.exponent < a.exponent {
-        return aligned(a, b, task);
+        return aligned(a, b);
     }
     if a.significand < b.significand {
-        return aligned(b, a, task);
+        return aligned(b, a);
     }
-    aligned(a, b, task)
+    aligned(a, b)
 }

@@ -18,7 +18,8 @@ use super::task::Claim;
 use super::task::Mode;
 use super::task::Rounding;
 use super::task::Task;
-use super::task::is_precise;
+use super::task::is_precision;
+use super::task::precision_of;
 use super::words::Cell;
 use super::words::Words;
 use super::words::leading_zeros;
@@ -42,7 +43,7 @@ const HIGHEST_BIASED: u64 = 131_071;
 pub fn round_cell(negative: bool, cell: Cell, exponent: i32, task: Task) -> Answer
     ensures { λ r. ⌜ outcome r ≡ cellRounding negative (wide (cell .high) (cell .low)) (cell .rest) exponent task ⌝ }
 {
-    if !is_precise(task) {
+    if !is_precision(precision_of(task)) {
         return Answer::BadPrecision;
     }
     rounded(negative, raised(exponent), end_of(cell), task)

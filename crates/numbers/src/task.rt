@@ -76,12 +76,12 @@ pub fn is_precision(n: u32) -> bool
     false
 }
 
-// Is the precision of the task one?
-pub fn is_precise(task: Task) -> bool
-    ensures { λ r. ⌜ r ≡ isPrecision (precisionOf task) ⌝ }
+// The precision of the task.
+pub fn precision_of(task: Task) -> u32
+    ensures { λ r. ⌜ r ≡ precisionOf task ⌝ }
 {
     match task {
-        Task::Round(rounding) => is_precision(rounding.precision),
-        Task::Exact(claim) => is_precision(claim.precision),
+        Task::Round(rounding) => rounding.precision,
+        Task::Exact(claim) => claim.precision,
     }
 }

@@ -10,14 +10,14 @@ use lib.Dec.{ltb, lit≤}
 use lib.Pow.{pow-add, pow-pos, pow-mono}
 use Rattle.numbers.specs.Rounding.{precisionOf}
 use Rattle.numbers.specs.Fraction.{IsFraction, signed, sum}
-use Rattle.numbers.specs.Answer.{Outcome, rounded}
+use Rattle.numbers.specs.Answer.{rounded}
 use Rattle.numbers.specs.Grid.{InCell, digit}
 use Rattle.numbers.specs.declared.task.Task.{Task}
 use Rattle.numbers.proofs.Laws.Fractions.{fraction, same-sum, other-sum, sum-fraction}
 use Rattle.numbers.proofs.Laws.Value.{cell-of, same-outcome}
-use Rattle.numbers.specs.Cell.{endOf}
+use Rattle.numbers.specs.Cell.{wide, endOf}
 use Rattle.numbers.specs.Magnitude.{scaledValue}
-use Rattle.arithmetic.specs.Magnitude.{lastBit, operandValue, IsOperand, IsAligned}
+use Rattle.arithmetic.specs.Private.{lastBit, operandValue, IsOperand, IsAligned, exactValue, IsExact}
 use Rattle.arithmetic.specs.declared.operand.Operand.{Operand}
 use Rattle.arithmetic.proofs.Laws.Sum.{cell-rounds, cell-added, cell-subtracted, raised-power, shifted-cell}
 
@@ -67,8 +67,7 @@ flag true m y l e = omega arith
 
 -- ---- of two operands
 
-module _ (large small : Operand) (h : IsAligned large small) (task : Task) (n0 : 1 ≤ precisionOf task) (n1 : precisionOf task ≤ 64)
-    (Y : ℕ) (rest : Bool) (shifted : Y ≡ small .significand * 2 ^ 63 / 2 ^ (large .exponent - small .exponent))
+module _ (large small : Operand) (h : IsAligned large small) (Y : ℕ) (rest : Bool) (shifted : Y ≡ small .significand * 2 ^ 63 / 2 ^ (large .exponent - small .exponent))
     (dropped : rest ≡ ltb 0 (small .significand * 2 ^ 63 % 2 ^ (large .exponent - small .exponent))) where
   cell : InCell rest (small .significand * 2 ^ 63) Y (2 ^ (large .exponent - small .exponent))
   cell = rw (shifted, dropped) (cell-of (small .significand * 2 ^ 63) (2 ^ (large .exponent - small .exponent)) (pow-pos (large .exponent - small .exponent)))
@@ -81,9 +80,9 @@ module _ (large small : Operand) (h : IsAligned large small) (task : Task) (n0 :
   borrow-fits : digit rest + Y ≤ large .significand * 2 ^ 63
   borrow-fits = room rest (large .significand) (small .significand) Y (2 ^ 63) (2 ^ (large .exponent - small .exponent)) (pow-pos (large .exponent - small .exponent)) (h .larger) cell
 
-  -- where there is a rest, F has more bits than the task asks
-  fine : (F : ℕ) → large .significand * 2 ^ 63 ≤ F + 1 + Y → rest ≡ true → 2 * 2 ^ precisionOf task ≤ F
-  fine F l e =
+  -- where there is a rest, F has more than 64 bits
+  fine : (n : ℕ) → n ≤ 64 → (F : ℕ) → large .significand * 2 ^ 63 ≤ F + 1 + Y → rest ≡ true → 2 * 2 ^ n ≤ F
+  fine n n1 F l e =
       let c : InCell true (small .significand * 2 ^ 63) Y (2 ^ (large .exponent - small .exponent)) = rw e at cell in
       le-trans (mul-le-mul-left 2 (pow-mono n1))
       (wide-enough (large .significand) (small .significand) Y (2 ^ 63) (2 ^ 64) (2 ^ (large .exponent - small .exponent)) F refl (lit≤ tt) (h .small-word) (pow-mono (far (small .significand) Y (large .exponent - small .exponent) c))
@@ -92,23 +91,23 @@ module _ (large small : Operand) (h : IsAligned large small) (task : Task) (n0 :
   grid-cell : InCell rest (small .significand * 2 ^ (small .exponent + 65598)) Y (2 ^ (large .exponent + 65535))
   grid-cell = shifted-cell rest (small .significand) (small .exponent) (large .exponent) Y (h .lower) cell
 
-  added-rounds : small .negative ≡ large .negative
+  added-rounds : (task : Task) → 1 ≤ precisionOf task → precisionOf task ≤ 64 → small .negative ≡ large .negative
       → rounded task (scaledValue (large .negative) (endOf (large .significand * 2 ^ 63 + Y) rest) (large .exponent + 65535) lastBit) ≡ rounded task (sum (operandValue large) (operandValue small))
   unfolding operandValue scaledValue IsFraction
-  added-rounds sign =
+  added-rounds task n0 n1 sign =
       let s = large .negative in
       let F = large .significand * 2 ^ 63 + Y in
       let A = large .significand * 2 ^ (large .exponent + 65598) in
       let B = small .significand * 2 ^ (small .exponent + 65598) in
-      sym (cell-rounds task s (A + B) F (large .exponent + 65535) rest n0 (fine F (omega arith)) (rw (raised-power (large .significand) (large .exponent)) (cell-added rest (large .significand * 2 ^ 63) B Y (2 ^ (large .exponent + 65535)) grid-cell)))
+      sym (cell-rounds task s (A + B) F (large .exponent + 65535) rest n0 (fine (precisionOf task) n1 F (omega arith)) (rw (raised-power (large .significand) (large .exponent)) (cell-added rest (large .significand * 2 ^ 63) B Y (2 ^ (large .exponent + 65535)) grid-cell)))
       ∙ rw sign
       (sym (same-outcome task (sum (fraction (signed s A) (2 ^ lastBit)) (fraction (signed s B) (2 ^ lastBit))) (fraction (signed s (A + B)) (2 ^ lastBit))
       (sum-fraction (fraction (signed s A) (2 ^ lastBit)) (fraction (signed s B) (2 ^ lastBit)) (pow-pos lastBit) (pow-pos lastBit)) (pow-pos lastBit) n0 (same-sum s A B (2 ^ lastBit))))
 
-  subtracted-rounds : small .negative ≡ not (large .negative) → (m : ℕ) → m + digit rest + Y ≡ large .significand * 2 ^ 63
+  subtracted-rounds : (task : Task) → 1 ≤ precisionOf task → precisionOf task ≤ 64 → small .negative ≡ not (large .negative) → (m : ℕ) → m + digit rest + Y ≡ large .significand * 2 ^ 63
       → rounded task (scaledValue (large .negative) (endOf m rest) (large .exponent + 65535) lastBit) ≡ rounded task (sum (operandValue large) (operandValue small))
   unfolding operandValue scaledValue IsFraction
-  subtracted-rounds sign m e =
+  subtracted-rounds task n0 n1 sign m e =
       let s = large .negative in
       let A = large .significand * 2 ^ (large .exponent + 65598) in
       let B = small .significand * 2 ^ (small .exponent + 65598) in
@@ -116,14 +115,14 @@ module _ (large small : Operand) (h : IsAligned large small) (task : Task) (n0 :
       let L = large .significand * 2 ^ 63 in
       let on-grid : A ≡ L * G = raised-power (large .significand) (large .exponent) in
       let less : B ≤ L * G = under rest B Y G L grid-cell borrow-fits in
-      sym (cell-rounds task s (A - B) m (large .exponent + 65535) rest n0 (fine m (flag rest m Y L e)) (rw on-grid (cell-subtracted rest L B Y G m less e grid-cell)))
+      sym (cell-rounds task s (A - B) m (large .exponent + 65535) rest n0 (fine (precisionOf task) n1 m (flag rest m Y L e)) (rw on-grid (cell-subtracted rest L B Y G m less e grid-cell)))
       ∙ rw sign
       (sym (same-outcome task (sum (fraction (signed s A) (2 ^ lastBit)) (fraction (signed (not s) B) (2 ^ lastBit))) (fraction (signed s (A - B)) (2 ^ lastBit))
       (sum-fraction (fraction (signed s A) (2 ^ lastBit)) (fraction (signed (not s) B) (2 ^ lastBit)) (pow-pos lastBit) (pow-pos lastBit)) (pow-pos lastBit) n0 (other-sum s A B (2 ^ lastBit) (rw on-grid less))))
 
 -- ---- from the code's equations: T, S and Y are the larger operand raised, the smaller one raised, and the smaller one shifted
 
-module _ (large small : Operand) (h : IsAligned large small) (task : Task) (n0 : 1 ≤ precisionOf task) (n1 : precisionOf task ≤ 64) (T S Y : ℕ) (rest : Bool)
+module _ (large small : Operand) (h : IsAligned large small) (T S Y : ℕ) (rest : Bool)
     (top : T ≡ large .significand * 2 ^ 63) (raised : S ≡ small .significand * 2 ^ 63)
     (shifted : Y ≡ S / 2 ^ (large .exponent - small .exponent)) (dropped : rest ≡ ltb 0 (S % 2 ^ (large .exponent - small .exponent))) where
   shifted-is : Y ≡ small .significand * 2 ^ 63 / 2 ^ (large .exponent - small .exponent)
@@ -134,15 +133,19 @@ module _ (large small : Operand) (h : IsAligned large small) (task : Task) (n0 :
 
   -- the sum, and its answer from the magnitude M
   pub added-fits : T + Y < 2 ^ 128
-  added-fits = rw top (sum-fits large small h task n0 n1 Y rest shifted-is dropped-is)
+  added-fits = rw top (sum-fits large small h Y rest shifted-is dropped-is)
 
-  pub added-answer : small .negative ≡ large .negative → (M : ℕ) (out : Outcome) → M ≡ T + Y → out ≡ rounded task (scaledValue (large .negative) (endOf M rest) (large .exponent + 65535) lastBit)
-      → out ≡ rounded task (sum (operandValue large) (operandValue small))
-  added-answer sign M out m o = o ∙ rw (m, top) (added-rounds large small h task n0 n1 Y rest shifted-is dropped-is sign)
+  pub added-answer : small .negative ≡ large .negative → (high low : ℕ) → wide high low ≡ T + Y
+      → IsExact (record { negative = large .negative; exponent = large .exponent + 65535; high = high; low = low; rest = rest }) (sum (operandValue large) (operandValue small))
+  unfolding exactValue
+  added-answer sign high low m = record {
+    biased = omega (arith, h .biased);
+    rounds = λ (task : Task) (n0 : 1 ≤ precisionOf task) (n1 : precisionOf task ≤ 64). rw (m, top) (added-rounds large small h Y rest shifted-is dropped-is task n0 n1 sign);
+  }
 
   -- the difference, less Y and then less the borrow b
   borrow-room : digit rest + Y ≤ T
-  borrow-room = rw top (borrow-fits large small h task n0 n1 Y rest shifted-is dropped-is)
+  borrow-room = rw top (borrow-fits large small h Y rest shifted-is dropped-is)
 
   pub subtracted-fits : Y ≤ T
   subtracted-fits = let r = borrow-room in omega arith
@@ -150,10 +153,15 @@ module _ (large small : Operand) (h : IsAligned large small) (task : Task) (n0 :
   pub borrowed-fits : (less b : ℕ) → less + Y ≡ T → b ≡ digit rest → b ≤ less
   borrowed-fits less b e k = let r = borrow-room in omega arith
 
-  pub subtracted-answer : small .negative ≡ not (large .negative) → (less b M : ℕ) (out : Outcome) → less + Y ≡ T → b ≡ digit rest → M + b ≡ less
-      → out ≡ rounded task (scaledValue (large .negative) (endOf M rest) (large .exponent + 65535) lastBit) → out ≡ rounded task (sum (operandValue large) (operandValue small))
-  subtracted-answer sign less b M out l k m o =
-      o ∙ (subtracted-rounds large small h task n0 n1 Y rest shifted-is dropped-is sign M (ap (λ (n : ℕ). M + n + Y) (sym k) ∙ ap (λ (n : ℕ). n + Y) m ∙ l ∙ top))
+  pub subtracted-answer : small .negative ≡ not (large .negative) → (less b high low : ℕ) → less + Y ≡ T → b ≡ digit rest → wide high low + b ≡ less
+      → IsExact (record { negative = large .negative; exponent = large .exponent + 65535; high = high; low = low; rest = rest }) (sum (operandValue large) (operandValue small))
+  unfolding exactValue
+  subtracted-answer sign less b high low l k m = record {
+    biased = omega (arith, h .biased);
+    rounds = λ (task : Task) (n0 : 1 ≤ precisionOf task) (n1 : precisionOf task ≤ 64).
+        subtracted-rounds large small h Y rest shifted-is dropped-is task n0 n1 sign (wide high low)
+        (ap (λ (n : ℕ). wide high low + n + Y) (sym k) ∙ ap (λ (n : ℕ). n + Y) m ∙ l ∙ top);
+  }
 
 -- ---- which operand is the larger
 

@@ -17,7 +17,7 @@ use Rattle.numbers.proofs.Laws.Fractions.{signed-equal}
 use Rattle.numbers.proofs.Laws.Signs.{negative-product}
 use Rattle.numbers.proofs.Laws.Working.{working-parts}
 use Rattle.numbers.specs.Magnitude.{scaledValue}
-use Rattle.arithmetic.specs.Magnitude.{lastBit, operandValue, IsOperand}
+use Rattle.arithmetic.specs.Private.{lastBit, operandValue, IsOperand}
 use Rattle.arithmetic.specs.declared.operand.Operand.{Operand}
 
 -- 0 / 1 is 0 over anything

@@ -18,7 +18,7 @@ use Rattle.numbers.proofs.Laws.Round.{grid-rounds}
 use Rattle.numbers.proofs.Laws.Signs.{abs-signed}
 use Rattle.numbers.specs.Cell.{endOf}
 use Rattle.numbers.specs.Magnitude.{scaledValue}
-use Rattle.arithmetic.specs.Magnitude.{lastBit}
+use Rattle.arithmetic.specs.Private.{lastBit}
 
 -- a sum in its cell, whether or not there is a rest
 pub cell-rounds : (task : Task) (s : Bool) (p F x : ℕ) (rest : Bool) → 1 ≤ precisionOf task → (rest ≡ true → 2 * 2 ^ precisionOf task ≤ F) → InCell rest p F (2 ^ x)

@@ -1,15 +1,81 @@
--- `arithmetic::operation::add` meets its contract: it is `coded` at the sum.
+-- `arithmetic::operation::add` meets its contract: the rows in their order, and then the exact sum, rounded.
+use native.Mathlib.Omega.{arith}
 use borrow.Author.Needs.{needs}
-use Rattle.arithmetic.specs.Operations.{sumOf}
+use Rattle.numbers.specs.Answer.{outcome}
+use Rattle.numbers.specs.Fraction.{sum}
+use Rattle.numbers.proofs.Laws.Fits.{zero-working}
+use Rattle.numbers.proofs.Laws.Refusals.{unknown-mode}
+use Rattle.arithmetic.specs.Operations.{sumOf, codedOf}
+use Rattle.arithmetic.specs.Private.{IsJudged}
+use Rattle.arithmetic.specs.declared.judgement.Judgement.the-variants.{Fit, BadPrecision, FirstUnfit, SecondUnfit}
+use Rattle.arithmetic.proofs.Laws.Entries.{judged-as, AreFit, fit-coded, coded-row, coded-answer}
 use Rattle.arithmetic.proofs.operation.add.Statement.{statement}
 use Rattle.arithmetic.proofs.operation.add.Tie as tie
 
-coded-requires : tie.Need-coded-requires
-coded-requires c κs = search needs
-
 returns : tie.Need-returns
+unfolding outcome sumOf codedOf
+returns c = unknown-mode 6 _ _ (omega (arith, c .if1 .taken))
+
+judged-requires : tie.Need-judged-requires
+judged-requires c κs = search needs
+
+enum-told : tie.Need-enum-told
+enum-told c = search needs
+
+enum-told-2 : tie.Need-enum-told-2
+enum-told-2 c = search needs
+
+enum-told-3 : tie.Need-enum-told-3
+enum-told-3 c = search needs
+
+enum-told-4 : tie.Need-enum-told-4
+enum-told-4 c = search needs
+
+fit : (c : tie.After-enum-told4) → let args = c .before .before .before .before .args in AreFit (args .a) (args .b) (args .precision)
+unfolding IsJudged
+fit c = judged-as _ _ _ _ Fit (c .before .before .judged .ensures) (c .enum-told4 .given .1)
+
+exact-sum-requires : tie.Need-exact-sum-requires
+exact-sum-requires c κs = let f = fit c in search (f .0, f .1, zero-working)
+
+task-of-requires : tie.Need-task-of-requires
+task-of-requires c κs = search needs
+
+rounded-requires : tie.Need-rounded-requires
+rounded-requires c κs = let n = fit-coded sum _ _ _ _ (c .before .before .before .before .before .if1 .left) _ (c .task-of .ensures) (fit (c .before .before)) in (c .before .exact-sum .ensures .biased, n .0, n .1)
+
+returns-2 : tie.Need-returns-2
+unfolding outcome sumOf IsJudged
+returns-2 c = coded-row sum _ _ _ _ (c .before .before .before .if1 .left) 2 (judged-as _ _ _ _ BadPrecision (c .before .before .judged .ensures) (c .enum-told .given .1))
+
+returns-3 : tie.Need-returns-3
+unfolding outcome sumOf IsJudged
+returns-3 c = coded-row sum _ _ _ _ (c .before .before .before .if1 .left) 3 (judged-as _ _ _ _ FirstUnfit (c .before .before .judged .ensures) (c .enum-told2 .given .1))
+
+returns-4 : tie.Need-returns-4
+unfolding outcome sumOf IsJudged
+returns-4 c = coded-row sum _ _ _ _ (c .before .before .before .if1 .left) 4 (judged-as _ _ _ _ SecondUnfit (c .before .before .judged .ensures) (c .enum-told3 .given .1))
+
+returns-5 : tie.Need-returns-5
 unfolding sumOf
-returns c = c .coded .ensures
+returns-5 c =
+    let known = c .before .before .before in
+    coded-answer sum _ _ _ _ (known .before .before .before .if1 .left) _ (c .before .task-of .ensures) (fit known) _ (c .before .before .exact-sum .ensures) _ (c .rounded .ensures)
 
 pub add-spec : {M : Type 1} → statement M
-add-spec = tie.close (tie.spec coded-requires returns)
+add-spec =
+    tie.close
+    (tie.spec
+    returns
+    judged-requires
+    enum-told
+    enum-told-2
+    enum-told-3
+    enum-told-4
+    exact-sum-requires
+    task-of-requires
+    rounded-requires
+    returns-2
+    returns-3
+    returns-4
+    returns-5)

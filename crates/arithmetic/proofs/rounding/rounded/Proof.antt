@@ -18,7 +18,7 @@ use Rattle.numbers.proofs.Laws.Bias.{pos-minus}
 use Rattle.numbers.proofs.Laws.Refusals.{range-precision}
 use Rattle.numbers.proofs.Laws.Round.{scaled-binary}
 use Rattle.numbers.proofs.Laws.Signed.{minus-fits}
-use Rattle.arithmetic.specs.Magnitude.{lastBit}
+use Rattle.arithmetic.specs.Private.{lastBit, exactValue}
 use Rattle.arithmetic.proofs.rounding.rounded.Statement.{statement}
 use Rattle.arithmetic.proofs.rounding.rounded.Tie as tie
 
@@ -38,19 +38,20 @@ answers : (task : Task) (negative : Bool) (F x : ℕ) (rest : Bool) (e : ℤ) �
 unfolding cellRounding
 answers task negative F x rest e n0 n1 is = rw (range-precision (precisionOf task) n0 n1, is) (sym (scaled-binary task negative (endOf F rest) x lastBit n0))
 
-cast-round-cell : tie.Need-cast-round-cell
-cast-round-cell c = search needs
+cast-exponent : tie.Need-cast-exponent
+cast-exponent c = search needs
 
-sub-round-cell : tie.Need-sub-round-cell
-sub-round-cell c = difference-fits (c .args .exponent) (c .pre .0)
+sub-exponent : tie.Need-sub-exponent
+sub-exponent c = difference-fits _ (c .before .pre .0)
 
 round-cell-requires : tie.Need-round-cell-requires
 round-cell-requires c κs = search needs
 
 returns : tie.Need-returns
+unfolding exactValue
 returns c =
-    let start = c .before in
-    c .round-cell .ensures ∙ answers _ _ _ (start .args .exponent) _ _ (start .pre .1) (start .pre .2) (exponent-is (start .args .exponent) (start .pre .0))
+    let start = c .before .before in
+    c .round-cell .ensures ∙ answers _ _ _ _ _ _ (start .pre .1) (start .pre .2) (exponent-is _ (start .pre .0))
 
 pub rounded-spec : {M : Type 1} → statement M
-rounded-spec = tie.close (tie.spec cast-round-cell sub-round-cell round-cell-requires returns)
+rounded-spec = tie.close (tie.spec cast-exponent sub-exponent round-cell-requires returns)

@@ -19,20 +19,17 @@ shift-right-requires c κs = search needs
 sum-requires : tie.Need-sum-requires
 sum-requires c κs =
     let start = c .before .before .before .before .before in
-    added-fits _ _ (start .pre .0) _ (start .pre .2) (start .pre .3) _ _ _ (c .shift-right .result .rest) (c .before .before .before .before .raised .ensures) (c .before .before .before .raised2 .ensures) (c .shift-right .ensures .0) (c .shift-right .ensures .1)
+    added-fits _ _ (start .pre .0) _ _ _ (c .shift-right .result .rest) (c .before .before .before .before .raised .ensures) (c .before .before .before .raised2 .ensures) (c .shift-right .ensures .0) (c .shift-right .ensures .1)
 
-add-rounded : tie.Need-add-rounded
-add-rounded c = search needs
-
-rounded-requires : tie.Need-rounded-requires
-rounded-requires c κs = search needs
+add-t7 : tie.Need-add-t7
+add-t7 c = search needs
 
 returns : tie.Need-returns
 returns c =
-    let start = c .before .before .before .before .before .before .before .before in
-    let cell = c .before .before .before in
-    added-answer _ _ (start .pre .0) _ (start .pre .2) (start .pre .3) _ _ _ (cell .shift-right .result .rest) (cell .before .before .before .before .raised .ensures) (cell .before .before .before .raised2 .ensures) (cell .shift-right .ensures .0)
-    (cell .shift-right .ensures .1) (start .pre .1) _ _ (c .before .before .sum .ensures) (c .rounded .ensures)
+    let start = c .before .before .before .before .before .before .before in
+    let cell = c .before .before in
+    added-answer _ _ (start .pre .0) _ _ _ (cell .shift-right .result .rest) (cell .before .before .before .before .raised .ensures) (cell .before .before .before .raised2 .ensures) (cell .shift-right .ensures .0)
+    (cell .shift-right .ensures .1) (start .pre .1) _ _ (c .before .sum .ensures)
 
 pub added-spec : {M : Type 1} → statement M
 added-spec =
@@ -43,6 +40,5 @@ added-spec =
     sub-shift-right
     shift-right-requires
     sum-requires
-    add-rounded
-    rounded-requires
+    add-t7
     returns)

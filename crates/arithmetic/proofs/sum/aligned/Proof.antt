@@ -22,12 +22,12 @@ other false false e = absurd (let z : _≡_ {A = ℕ} 0 1 = cc in omega arith)
 added-requires : tie.Need-added-requires
 added-requires c κs =
     let start = c .before .before .before in
-    (start .pre .0, same (start .args .large .negative) _ (c .if1 .taken), start .pre .1, start .pre .2)
+    (start .pre, same (start .args .large .negative) _ (c .if1 .taken))
 
 subtracted-requires : tie.Need-subtracted-requires
 subtracted-requires c κs =
     let start = c .before .before .before in
-    (start .pre .0, other (start .args .large .negative) _ (c .if1 .left), start .pre .1, start .pre .2)
+    (start .pre, other (start .args .large .negative) _ (c .if1 .left))
 
 returns : tie.Need-returns
 returns c = search needs

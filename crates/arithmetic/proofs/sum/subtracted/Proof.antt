@@ -19,7 +19,7 @@ shift-right-requires c κs = search needs
 difference-requires : tie.Need-difference-requires
 difference-requires c κs =
     let start = c .before .before .before .before .before in
-    subtracted-fits _ _ (start .pre .0) _ (start .pre .2) (start .pre .3) _ _ _ (c .shift-right .result .rest) (c .before .before .before .before .raised .ensures) (c .before .before .before .raised2 .ensures) (c .shift-right .ensures .0) (c .shift-right .ensures .1)
+    subtracted-fits _ _ (start .pre .0) _ _ _ (c .shift-right .result .rest) (c .before .before .before .before .raised .ensures) (c .before .before .before .raised2 .ensures) (c .shift-right .ensures .0) (c .shift-right .ensures .1)
 
 borrow-requires : tie.Need-borrow-requires
 borrow-requires c κs = search needs
@@ -28,21 +28,18 @@ difference-requires-2 : tie.Need-difference-requires-2
 difference-requires-2 c κs =
     let cell = c .before .before in
     let start = cell .before .before .before .before .before in
-    borrowed-fits _ _ (start .pre .0) _ (start .pre .2) (start .pre .3) _ _ _ (cell .shift-right .result .rest) (cell .before .before .before .before .raised .ensures) (cell .before .before .before .raised2 .ensures) (cell .shift-right .ensures .0)
+    borrowed-fits _ _ (start .pre .0) _ _ _ (cell .shift-right .result .rest) (cell .before .before .before .before .raised .ensures) (cell .before .before .before .raised2 .ensures) (cell .shift-right .ensures .0)
     (cell .shift-right .ensures .1) _ _ (c .before .difference .ensures) (c .borrow .ensures)
 
-add-rounded : tie.Need-add-rounded
-add-rounded c = search needs
-
-rounded-requires : tie.Need-rounded-requires
-rounded-requires c κs = search needs
+add-t8 : tie.Need-add-t8
+add-t8 c = search needs
 
 returns : tie.Need-returns
 returns c =
-    let cell = c .before .before .before .before .before in
+    let cell = c .before .before .before .before in
     let start = cell .before .before .before .before .before in
-    subtracted-answer _ _ (start .pre .0) _ (start .pre .2) (start .pre .3) _ _ _ (cell .shift-right .result .rest) (cell .before .before .before .before .raised .ensures) (cell .before .before .before .raised2 .ensures) (cell .shift-right .ensures .0)
-    (cell .shift-right .ensures .1) (start .pre .1) _ _ _ _ (c .before .before .before .before .difference .ensures) (c .before .before .before .borrow .ensures) (c .before .before .difference2 .ensures) (c .rounded .ensures)
+    subtracted-answer _ _ (start .pre .0) _ _ _ (cell .shift-right .result .rest) (cell .before .before .before .before .raised .ensures) (cell .before .before .before .raised2 .ensures) (cell .shift-right .ensures .0)
+    (cell .shift-right .ensures .1) (start .pre .1) _ _ _ _ (c .before .before .before .difference .ensures) (c .before .before .borrow .ensures) (c .before .difference2 .ensures)
 
 pub subtracted-spec : {M : Type 1} → statement M
 subtracted-spec =
@@ -55,6 +52,5 @@ subtracted-spec =
     difference-requires
     borrow-requires
     difference-requires-2
-    add-rounded
-    rounded-requires
+    add-t8
     returns)

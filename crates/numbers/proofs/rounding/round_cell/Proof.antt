@@ -30,11 +30,18 @@ module _ (negative : Bool) (F : ℕ) (rest : Bool) (e : ℤ) (task : Task) (prec
   unfolding cellRounding
   given h x M is end = rw (sym judged ∙ h, is, end) (scaled-binary task negative (endOf F rest) x raise (range h .0))
 
-is-precise-requires : tie.Need-is-precise-requires
-is-precise-requires c κs = search needs
+precision-of-requires : tie.Need-precision-of-requires
+precision-of-requires c κs = search needs
+
+is-precision-requires : tie.Need-is-precision-requires
+is-precision-requires c κs = search needs
+
+-- what is judged is the task's precision
+judged-precision : (task : Task) (n : ℕ) (precise : Bool) → n ≡ precisionOf task → precise ≡ isPrecision n → precise ≡ isPrecision (precisionOf task)
+judged-precision task n precise e h = h ∙ ap isPrecision e
 
 returns : tie.Need-returns
-returns c = refused _ _ _ _ _ _ (c .before .is-precise .ensures) (not-true _ (c .if1 .taken))
+returns c = refused _ _ _ _ _ _ (judged-precision _ _ _ (c .before .before .precision-of .ensures) (c .before .is-precision .ensures)) (not-true _ (c .if1 .taken))
 
 raised-requires : tie.Need-raised-requires
 raised-requires c κs = search needs
@@ -44,14 +51,16 @@ end-of-requires c κs = search needs
 
 rounded-requires : tie.Need-rounded-requires
 rounded-requires c κs =
-    let start = c .before .before .before .before in
-    let n = range (start .args .negative) 0 (start .args .cell .rest) (start .args .exponent) _ _ (c .before .before .before .is-precise .ensures) (not-false _ (c .before .before .if1 .left)) in
+    let start = c .before .before .before .before .before in
+    let asked = c .before .before .before in
+    let n = range (start .args .negative) 0 (start .args .cell .rest) (start .args .exponent) _ _ (judged-precision _ _ _ (asked .before .precision-of .ensures) (asked .is-precision .ensures)) (not-false _ (c .before .before .if1 .left)) in
     (c .before .raised .ensures .1, n .0, n .1)
 
 returns-2 : tie.Need-returns-2
 returns-2 c =
+    let asked = c .before .before .before .before in
     c .rounded .ensures
-    ∙ given _ _ _ _ _ _ (c .before .before .before .before .is-precise .ensures) (not-false _ (c .before .before .before .if1 .left)) _ _ (sym (toZ-ofZ (c .before .before .before .before .before .fits .exponent)) ∙ c .before .before .raised .ensures .0) (c .before .end-of .ensures)
+    ∙ given _ _ _ _ _ _ (judged-precision _ _ _ (asked .before .precision-of .ensures) (asked .is-precision .ensures)) (not-false _ (c .before .before .before .if1 .left)) _ _ (sym (toZ-ofZ (asked .before .before .fits .exponent)) ∙ c .before .before .raised .ensures .0) (c .before .end-of .ensures)
 
 pub round-cell-spec : {M : Type 1} → statement M
-round-cell-spec = tie.close (tie.spec is-precise-requires returns raised-requires end-of-requires rounded-requires returns-2)
+round-cell-spec = tie.close (tie.spec precision-of-requires is-precision-requires returns raised-requires end-of-requires rounded-requires returns-2)

@@ -1,0 +1,44 @@
+/* Divides 1 by 3 downward and upward, and by zero, which is refused. From the repository's root:
+ *
+ *     rt staticlib export && gcc -std=c99 -o example c/example.c target/staticlib/libexport.a
+ */
+#include <inttypes.h>
+#include <stdio.h>
+
+#include "navehuro.h"
+
+typedef uint8_t number[NAVEHURO_NUMBER_BYTES];
+
+static void put_integer(number x, uint64_t value) {
+    int32_t exponent = 63;
+    for (int i = 0; i < NAVEHURO_NUMBER_BYTES; i++) x[i] = 0;
+    if (value == 0) return;
+    for (; value >> 63 == 0; value <<= 1) exponent--;
+    for (int i = 0; i < 8; i++) x[i] = (uint8_t)(value >> 8 * i);
+    for (int i = 0; i < 4; i++) x[8 + i] = (uint8_t)((uint32_t)exponent >> 8 * i);
+    x[12] = NAVEHURO_POSITIVE;
+}
+
+static void print(const char *name, const number x) {
+    uint64_t significand = 0;
+    uint32_t exponent = 0;
+    for (int i = 7; i >= 0; i--) significand = significand << 8 | x[i];
+    for (int i = 11; i >= 8; i--) exponent = exponent << 8 | x[i];
+    printf("%s: significand %016" PRIx64 ", exponent %" PRId32 "\n", name, significand,
+           (int32_t)exponent);
+}
+
+static uint32_t divide(const number a, const number b, uint32_t mode, number result) {
+    return navehuro_divide(a, sizeof(number), b, sizeof(number), mode, 64, result, sizeof(number));
+}
+
+int main(void) {
+    number one, three, zero, quotient;
+    put_integer(one, 1);
+    put_integer(three, 3);
+    put_integer(zero, 0);
+    if (divide(one, three, NAVEHURO_DOWN, quotient) == NAVEHURO_WRITTEN) print("1/3 down", quotient);
+    if (divide(one, three, NAVEHURO_UP, quotient) == NAVEHURO_WRITTEN) print("1/3 up", quotient);
+    printf("1/0: refusal %" PRIu32 "\n", divide(one, zero, NAVEHURO_UP, quotient));
+    print("as it was", quotient);
+}

@@ -1,0 +1,62 @@
+/*
+ * CPU time and peak memory of programs on inputs:
+ *
+ *     runs ROUNDS COUNT PROGRAM... INPUT...
+ *
+ * In each round runs, for each file, each of the COUNT programs with that file as standard input, and
+ * prints a line for each run: CPU time in microseconds, of user and system together, and peak memory in
+ * KiB. Where the peak of this program, which starts the others, is higher, the system gives that; so it
+ * is small.
+ */
+#include <fcntl.h>
+#include <spawn.h>
+#include <stdio.h>
+#include <stdlib.h>
+#include <sys/resource.h>
+#include <sys/wait.h>
+#include <unistd.h>
+
+enum { FIRST_PROGRAM = 3, FAILED = 2 };
+
+static void fail(const char *what) {
+    fprintf(stderr, "runs: %s\n", what);
+    exit(FAILED);
+}
+
+/* Runs the program to its end; what it prints is thrown away. */
+static struct rusage usage_of(char *program, const char *input) {
+    posix_spawn_file_actions_t actions;
+    char *words[] = {program, NULL}, *environment[] = {NULL};
+    struct rusage usage;
+    pid_t child;
+    int status;
+    posix_spawn_file_actions_init(&actions);
+    posix_spawn_file_actions_addopen(&actions, STDIN_FILENO, input, O_RDONLY, 0);
+    posix_spawn_file_actions_addopen(&actions, STDOUT_FILENO, "/dev/null", O_WRONLY, 0);
+    if (posix_spawn(&child, program, &actions, NULL, words, environment) != 0) fail(program);
+    if (wait4(child, &status, 0, &usage) != child || status != 0) fail(program);
+    posix_spawn_file_actions_destroy(&actions);
+    return usage;
+}
+
+static long microseconds(const struct timeval *time) {
+    return time->tv_sec * 1000000L + time->tv_usec;
+}
+
+int main(int count, char **words) {
+    int rounds = count > FIRST_PROGRAM ? atoi(words[1]) : 0;
+    int programs = count > FIRST_PROGRAM ? atoi(words[2]) : 0;
+    int first_input = FIRST_PROGRAM + programs;
+    if (rounds < 1 || programs < 1 || first_input >= count)
+        fail("usage: ROUNDS COUNT PROGRAM... INPUT...");
+    for (int round = 0; round < rounds; round++) {
+        for (int input = first_input; input < count; input++) {
+            for (int program = FIRST_PROGRAM; program < first_input; program++) {
+                struct rusage used = usage_of(words[program], words[input]);
+                printf("%ld %ld\n", microseconds(&used.ru_utime) + microseconds(&used.ru_stime),
+                       used.ru_maxrss);
+            }
+        }
+    }
+    return 0;
+}

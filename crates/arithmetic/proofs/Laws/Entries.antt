@@ -1,0 +1,63 @@
+-- What an operation answers once its operands are judged: the row that refuses, or the exact value rounded by the task.
+use mathlib.Core.Path.{_≡_, sym, subst, ap, _∙_}
+use mathlib.Core.Bool.{true}
+use Prim.Native.Nat.{ℕ, _≤_}
+use Rattle.numbers.specs.Answer.{Outcome, refused, rounded, unlessEitherUnfit}
+use Rattle.numbers.specs.Fraction.{Fraction, IsFraction, Equal, value}
+use Rattle.numbers.specs.Number.{isWorking}
+use Rattle.numbers.specs.Rounding.{taskOf, precisionOf, isPrecision}
+use Rattle.numbers.specs.declared.number.Number.{Number}
+use Rattle.numbers.specs.declared.task.Task.{Task}
+use Rattle.numbers.proofs.Laws.Refusals.{task-precision, precision-range, known-mode, none-unfit}
+use Rattle.numbers.proofs.Laws.Value.{same-outcome}
+use Rattle.arithmetic.specs.Operations.{operationOf, codedOf}
+use Rattle.arithmetic.specs.Private.{exactValue, IsExact, IsJudged}
+use Rattle.arithmetic.specs.declared.judgement.Judgement.{Judgement}
+use Rattle.arithmetic.specs.declared.rounding.Exact.{Exact}
+
+-- an exact value, and another of the same amount
+pub exact-equal : (x : Exact) (u v : Fraction) → IsFraction u → IsFraction v → Equal v u → IsExact x u → IsExact x v
+exact-equal x u v u0 v0 e h = record {
+  biased = h .biased;
+  rounds = λ (task : Task) (n0 : 1 ≤ precisionOf task) (n1 : precisionOf task ≤ 64). h .rounds task n0 n1 ∙ sym (same-outcome task v u v0 u0 n0 e);
+}
+
+-- the case of a judgement that a match has found
+pub judged-as : (a b : Number) (n : ℕ) (r j : Judgement) → IsJudged a b n r → r ≡ j → IsJudged a b n j
+judged-as a b n r j h e = subst (IsJudged a b n) e h
+
+-- operands that are judged fit
+abbrev pub AreFit : Number → Number → ℕ → Type 0
+AreFit a b n = (isWorking a ≡ true) × (isWorking b ≡ true) × (isPrecision n ≡ true)
+
+-- by a task, and by a mode code and a precision
+module _ (exact : Fraction → Fraction → Fraction) (a b : Number) where
+  module _ (task : Task) (n : ℕ) (precision : n ≡ precisionOf task) where
+    pub task-row : (k : ℕ) → ((x : Outcome) → refused k ≡ unlessEitherUnfit isWorking a b n x) → refused k ≡ operationOf exact a b task
+    unfolding operationOf
+    task-row k h = rw (← precision) (h (rounded task (exact (value a) (value b))))
+
+    pub fit-task : AreFit a b n → (1 ≤ precisionOf task) × (precisionOf task ≤ 64)
+    fit-task fit = rw (← precision) (precision-range n (fit .2))
+
+    pub task-answer : AreFit a b n → (x : Exact) → IsExact x (exact (value a) (value b)) → (out : Outcome) → out ≡ rounded task (exactValue x) → out ≡ operationOf exact a b task
+    unfolding operationOf
+    task-answer fit x is out o =
+        let p = fit-task fit in
+        o ∙ is .rounds task (p .0) (p .1) ∙ none-unfit isWorking a b (precisionOf task) (rounded task (exact (value a) (value b))) (rw precision at (fit .2)) (fit .0) (fit .1)
+
+  module _ (code n : ℕ) (known : code ≤ 6) where
+    pub coded-row : (k : ℕ) → ((x : Outcome) → refused k ≡ unlessEitherUnfit isWorking a b n x) → refused k ≡ codedOf exact a b code n
+    unfolding codedOf
+    coded-row k h = task-row (taskOf code n) n (sym (task-precision code n)) k h ∙ known-mode 6 code _ known
+
+    module _ (task : Task) (named : task ≡ taskOf code n) (fit : AreFit a b n) where
+      named-precision : n ≡ precisionOf task
+      named-precision = sym (ap precisionOf named ∙ task-precision code n)
+
+      pub fit-coded : (1 ≤ precisionOf task) × (precisionOf task ≤ 64)
+      fit-coded = fit-task task n named-precision fit
+
+      pub coded-answer : (x : Exact) → IsExact x (exact (value a) (value b)) → (out : Outcome) → out ≡ rounded task (exactValue x) → out ≡ codedOf exact a b code n
+      unfolding codedOf
+      coded-answer x is out o = task-answer task n named-precision fit x is out o ∙ ap (operationOf exact a b) named ∙ known-mode 6 code _ known

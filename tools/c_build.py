@@ -1,0 +1,66 @@
+"""Builds the C programs of c/, over the archive of the crate `export` and over MPFR."""
+
+from __future__ import annotations
+
+import shutil
+import subprocess
+import sys
+from pathlib import Path
+
+ROOT = Path(__file__).resolve().parent.parent
+SOURCES = ROOT / "c"
+COMPILER = "gcc"
+# Exit status where something is missing or does not build.
+UNBUILT = 2
+# A header, and the Debian package that has it.
+HEADERS = {"gmp.h": "libgmp-dev", "mpfr.h": "libmpfr-dev"}
+
+
+def leave(reason: str) -> None:
+    """Ends the script: nothing was compared or measured."""
+    print(reason, file=sys.stderr)
+    sys.exit(UNBUILT)
+
+
+def need_compiler() -> None:
+    """Leaves, with the package to install, unless the compiler and the headers are here."""
+    if not shutil.which(COMPILER):
+        leave(f"{COMPILER} is missing: install the Debian package gcc (and libc6-dev)")
+    for header, package in HEADERS.items():
+        found = subprocess.run([COMPILER, "-E", "-x", "c", "-"], input=f"#include <{header}>\n",
+                               text=True, capture_output=True)
+        if found.returncode:
+            leave(f"{header} is missing: install the Debian package {package}")
+
+
+def rt(*words: str) -> None:
+    """Runs rt at the root of the repository; what it prints goes to standard error."""
+    if not shutil.which("rt"):
+        leave("rt is missing: install the Rattle kit, or name what it has built (--help)")
+    if subprocess.run(["rt", *words], cwd=ROOT, stdout=sys.stderr).returncode:
+        leave(f"rt {' '.join(words)} failed")
+
+
+def built(path: str | None, place: str, *words: str) -> Path:
+    """The file at the path; if none is named, that which rt with these words writes to the place."""
+    if path is None:
+        rt(*words)
+    file = ROOT / place if path is None else Path(path).resolve()
+    if not file.is_file():
+        leave(f"{file} is missing")
+    return file
+
+
+def archive(path: str | None) -> Path:
+    """The archive at the path, or that of the repository, built now."""
+    return built(path, "target/staticlib/libexport.a", "staticlib", "export")
+
+
+def compiled(folder: str, sources: list[str], flags: list[str], libraries: list[str]) -> Path:
+    """The program of these sources, named after the first of them."""
+    program = Path(folder) / Path(sources[0]).stem
+    words = [COMPILER, *flags, "-Wall", "-Wextra", "-Werror", "-o", str(program),
+             *(str(SOURCES / source) for source in sources), *libraries]
+    if subprocess.run(words).returncode:
+        leave(f"{' '.join(sources)} did not compile and link")
+    return program

@@ -4,8 +4,11 @@ ghost use lib.ListN.{length};
 ghost use Rattle.io.specs.Counts.{Counts};
 ghost use Rattle.report.specs.Program.{gotOf, bytesRead};
 use blocks::judgement::BLOCK_BYTES;
-use depot::load::Loading;
-use depot::state::Depot;
+use blocks::judgement::Judgement;
+use blocks::judgement::judge;
+use blocks::record::MOST_RECORDS;
+use blocks::record::count_of;
+use blocks::record::record_at;
 use libc::STDIN_FILENO;
 
 // How many bytes were read, or that a read failed.
@@ -27,19 +30,24 @@ enum Got {
 pub fn read_blocks(buffer: &mut [u8]) -> Input
     ensures { λ r. ⌜ Counts (bytesRead r) (now (buffer .exit)) ⌝ }
 {
-    let mut depot = Depot::fresh();
+    // What decides on the next block: its number, whether one before closed the depot, and the last van.
+    let mut due: u32 = 0;
+    let mut closed = false;
+    let mut latest: u32 = 0;
     let mut count = 0;
     while buffer.len() - count >= BLOCK_BYTES {
         let Input::Read(size) = read(&mut buffer[count..count + BLOCK_BYTES]) else {
             return Input::Failed;
         };
         count += size;
-        let load = depot.load(&buffer[count - size..count]);
-        let answer = load.answer;
-        let Loading::Taken = answer else {
+        let block = &buffer[count - size..count];
+        let Judgement::Lawful = judge(block, due, closed, latest) else {
             break;
         };
-        depot = load.depot;
+        let vans = count_of(block);
+        due += 1;
+        closed = vans < MOST_RECORDS;
+        latest = record_at(block, vans - 1).van;
     }
     Input::Read(count)
 }

@@ -1,8 +1,10 @@
 -- `report::input::read_blocks` is safe, ends and counts bytes of the buffer: a piece that is taken has 512 bytes, so the measure is what is left of it.
+use mathlib.Core.Bool.{false}
 use mathlib.Core.List.{List}
-use mathlib.Core.Path.{_≡_, sym, _∙_}
+use mathlib.Core.Path.{_≡_, refl, sym, ap, _∙_}
 use Prim.Native.Nat.{ℕ, _+_, _-_, _≤_}
 use native.Mathlib.Omega.{arith}
+use lib.Dec.{ltb}
 use lib.ListN.{length, take, drop, length-take, length-drop}
 use borrow.Author.Needs.{needs}
 use Rattle.io.specs.Counts.{Counts}
@@ -10,15 +12,16 @@ use Rattle.report.specs.Program.{bytesRead}
 use Rattle.report.specs.declared.input.Input.{Input}
 use Rattle.report.specs.declared.input.Input.the-variants.{Read}
 use Rattle.report.proofs.Laws.Got.{counts}
-use Rattle.report.proofs.Laws.Taken.{taken-size}
+use Rattle.report.proofs.Laws.Taken.{lawful-size, lawful-count, lawful-due, still-room}
 use Rattle.report.proofs.input.read_blocks.Statement.{statement}
 use Rattle.report.proofs.input.read_blocks.Tie as tie
 
+-- an open depot waits for a block below 205
 abbrev Inv-loop : tie.InvT-loop
-Inv-loop buffer₀ depot₀ count₀ buffer depot count = (count ≤ length buffer) × (length buffer ≡ length buffer₀)
+Inv-loop buffer₀ due₀ closed₀ latest₀ count₀ buffer due closed latest count = (count ≤ length buffer) × (length buffer ≡ length buffer₀) × (closed ≡ false → due ≤ 204)
 
 abbrev μ-loop : tie.MeasureT-loop
-μ-loop buffer₀ depot₀ count₀ buffer depot count = length buffer - count
+μ-loop buffer₀ due₀ closed₀ latest₀ count₀ buffer due closed latest count = length buffer - count
 
 -- the piece that was read has room in the buffer
 passed : (count size : ℕ) (part buffer : List ℕ) (i : Input) → 512 ≤ length buffer - count → i ≡ Read size → Counts (bytesRead i) part
@@ -42,11 +45,8 @@ size-is count size whole h e =
     let start = count + size - size in
     omega (arith, sym (length-take (count + size - start) (drop start whole)) ∙ e, length-drop start whole)
 
-fresh-requires : tie.Need-fresh-requires Inv-loop μ-loop
-fresh-requires c κs = search needs
-
 loop-holds : tie.Need-loop-holds Inv-loop μ-loop
-loop-holds c = search needs
+loop-holds c = (omega arith, refl, λ (e : false ≡ false). omega arith)
 
 sub-loop : tie.Need-sub-loop Inv-loop μ-loop
 sub-loop c = search needs
@@ -82,39 +82,62 @@ returns c = search needs
 add-count : tie.Need-add-count Inv-loop μ-loop
 add-count c = let end = end-of (c .before) in search needs
 
-sub-load : tie.Need-sub-load Inv-loop μ-loop
-sub-load c = omega arith
+sub-block : tie.Need-sub-block Inv-loop μ-loop
+sub-block c = omega arith
 
-sub-load-2 : tie.Need-sub-load-2 Inv-loop μ-loop
-sub-load-2 c = omega arith
+sub-block-2 : tie.Need-sub-block-2 Inv-loop μ-loop
+sub-block-2 c = omega arith
 
-part-load-start : tie.Need-part-load-start Inv-loop μ-loop
-part-load-start c = let end = end-of (c .before .before) in search needs
+part-block-start : tie.Need-part-block-start Inv-loop μ-loop
+part-block-start c = let end = end-of (c .before .before) in search needs
 
-part-load-end : tie.Need-part-load-end Inv-loop μ-loop
-part-load-end c = let end = end-of (c .before .before) in search needs
+part-block-end : tie.Need-part-block-end Inv-loop μ-loop
+part-block-end c = let end = end-of (c .before .before) in search needs
 
-load-requires : tie.Need-load-requires Inv-loop μ-loop
-load-requires c κs = search needs
+judge-requires : tie.Need-judge-requires Inv-loop μ-loop
+judge-requires c κs = search needs
 
 enum-told-2 : tie.Need-enum-told-2 Inv-loop μ-loop
 enum-told-2 c = search needs
 
+count-of-requires : tie.Need-count-of-requires Inv-loop μ-loop
+count-of-requires c κs = search needs
+
+add-due : tie.Need-add-due Inv-loop μ-loop
+add-due c =
+    let judged = c .before .before .before in
+    let loop = judged .before .before .before .before .before .before .before .before .before .before .before in
+    let d = lawful-due _ _ _ _ _ (judged .judge .ensures) (c .before .enum-told2 .given .1) (loop .loop .inv .2) in
+    record { fits = omega (arith, d) }
+
+sub-record-at : tie.Need-sub-record-at Inv-loop μ-loop
+sub-record-at c =
+    let judged = c .before .before .before in
+    rw (c .count-of .ensures) (lawful-count _ _ _ _ _ (judged .judge .ensures) (c .before .enum-told2 .given .1))
+
+record-at-requires : tie.Need-record-at-requires Inv-loop μ-loop
+record-at-requires c κs = search needs
+
 loop-less : tie.Need-loop-less Inv-loop μ-loop
 loop-less c =
-    let load = c .before .before .before in
-    let read = load .before .before .before .before in
+    let judged = c .before .before .before .before in
+    let read = judged .before .before .before .before in
     let loop = read .before .before .before .before .before .before in
     let end = end-of read in
     let same = read .before .before .before .buffer .given .1 in
-    let full = size-is (loop .before .loop .count) (read .size .given .0 .0) _ (rw same end) (taken-size _ _ _ (load .load .ensures) (c .before .enum-told2 .given .1)) in
+    let full = size-is (loop .before .loop .count) (read .size .given .0 .0) _ (rw same end) (lawful-size _ _ _ _ _ (judged .judge .ensures) (c .before .before .enum-told2 .given .1)) in
     omega (arith, end, full, same, loop .loop-test .taken)
 
 loop-again : tie.Need-loop-again Inv-loop μ-loop
 loop-again c =
-    let read = c .before .before .before .before .before .before .before in
-    let same = read .before .before .before .buffer .given .1 in
-    (omega (arith, end-of read, same), same ∙ read .before .before .before .before .before .before .before .loop .inv .1)
+    let judged = c .before .before .before .before in
+    let read = judged .before .before .before .before in
+    let loop = read .before .before .before .before .before .before .before in
+    let same = read .before .before .before .buffer .given .1 in (
+      omega (arith, end-of read, same),
+      same ∙ loop .loop .inv .1,
+      λ e. still-room _ _ _ _ _ (judged .judge .ensures) (c .before .before .enum-told2 .given .1) (loop .loop .inv .2) (ap (λ (n : ℕ). ltb n 20) (sym (c .before .count-of .ensures)) ∙ e),
+    )
 
 same-length-2 : tie.Need-same-length-2 Inv-loop μ-loop
 same-length-2 c = search needs
@@ -138,7 +161,6 @@ read-blocks-spec =
     (tie.spec
     Inv-loop
     μ-loop
-    fresh-requires
     loop-holds
     sub-loop
     add-read
@@ -151,12 +173,16 @@ read-blocks-spec =
     same-length
     returns
     add-count
-    sub-load
-    sub-load-2
-    part-load-start
-    part-load-end
-    load-requires
+    sub-block
+    sub-block-2
+    part-block-start
+    part-block-end
+    judge-requires
     enum-told-2
+    count-of-requires
+    add-due
+    sub-record-at
+    record-at-requires
     loop-less
     loop-again
     same-length-2

@@ -2,7 +2,7 @@
 // magnitude, the smaller one is shifted right to it, and what is shifted out leaves a rest.
 ghost use mathlib.Core.Path.{_≡_};
 ghost use mathlib.Core.Bool.{not};
-ghost use Prim.Native.Nat.{_*_, _^_, _≤_};
+ghost use Prim.Native.Nat.{_*_, _^_};
 ghost use Rattle.numbers.specs.Fraction.{sum};
 ghost use Rattle.numbers.specs.Grid.{digit};
 ghost use Rattle.numbers.specs.Cell.{wide};

@@ -1,5 +1,5 @@
 -- Demand 3, whole, from the theorems on division, on lists of calls and on reports.
-use Rattle.division.proofs.Theorem.{division}
+use Rattle.steps.proofs.Theorem.{division}
 use Rattle.depot.proofs.Demand.{calls-hold, runs-hold}
 use Rattle.reporting.proofs.Demand.{reports-hold}
 use Rattle.demand.specs.Demand3.{Demand3}

@@ -1,5 +1,5 @@
 -- Demand 3, whole: what holds of every division and of every list of calls from a fresh depot, carried to every report; proofs/Demand3 has its proof.
-use Rattle.division.specs.Theorem.{Division}
+use Rattle.steps.specs.Theorem.{Division}
 use Rattle.depot.specs.Demand.{CallsHold, RunsHold}
 use Rattle.reporting.specs.Demand.{ReportsHold}
 

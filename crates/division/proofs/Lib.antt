@@ -1,4 +1,2 @@
--- The laws of the steps, and the theorem that joins them to the quotient; each function's proof stands in the folder of its name.
-pub mod Lines
+-- The laws; each function's proof stands in the folder of its name.
 pub mod Laws
-pub mod Theorem

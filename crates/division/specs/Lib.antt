@@ -1,10 +1,8 @@
--- What a reader must believe of the crate `division`, in document 01's order: the seed, the thirty-two lines, the value after a step and when a step fails (Steps),
--- what `divide` answers (Quotient) and what `step` answers (Wanted), and what the theorem says that joins the two (Theorem).
--- Run and Words have the terms of private contracts; no promise of a public function cites them.
+-- What a reader must believe of the crate `division`, in document 01's order: the rule of the seed table (Seed), what `divide` answers (Quotient), and
+-- what is asked before a division (Judgement).
+-- Words has the terms of private contracts; no promise of a public function cites it.
 -- Definitions only; the laws stand in proofs.
-pub mod Steps
+pub mod Seed
 pub mod Quotient
-pub mod Wanted
-pub mod Theorem
-pub mod Run
+pub mod Judgement
 pub mod Words

@@ -1,7 +1,8 @@
--- The terms of the private contracts of `significands`, on words: D and P are significands, w is 2^32. No sentence of document 01 speaks of them, and no
+-- The terms of private contracts, on words: D and P are significands, w is 2^32. No sentence of document 01 speaks of them, and no
 -- promise of a public function cites this file.
 use mathlib.Core.Path.{_≡_}
 use Prim.Native.Nat.{ℕ, _+_, _-_, _*_, _/_, _^_, _≤_, _<_}
+use Rattle.numbers.specs.Answer.{Outcome, given, refused}
 
 -- a significand
 pub record IsSignificand (D : ℕ) : Type 0 where
@@ -28,3 +29,8 @@ pub record IsReciprocalWord (D x : ℕ) : Type 0 where
 pub record IsQuotient (N D q R : ℕ) : Type 0 where
   pub parts : N ≡ q * D + R
   pub below : R < D
+
+-- a number, and no refusal
+unfoldable pub IsGiven : Outcome → Type 0
+IsGiven (given x) = Unit {0}
+IsGiven (refused k) = ⊥

@@ -1,7 +1,7 @@
-// Rows 1 to 5 of document 01's table, which both entries ask first.
+// Rows 1 to 5 of document 01's table, which the quotient and the steps ask first.
 ghost use mathlib.Core.Path.{_≡_};
 ghost use Rattle.division.specs.Quotient.{isZero};
-ghost use Rattle.division.specs.Run.{IsJudged};
+ghost use Rattle.division.specs.Judgement.{IsJudged};
 use numbers::number::Number;
 use numbers::number::is_admissible;
 use numbers::task::is_precision;
@@ -10,7 +10,7 @@ use numbers::task::is_precision;
 const LAST_CODE: u32 = 5;
 
 // The lowest row from 1 to 5 that applies, its number in the comment, or that none does.
-pub(crate) enum Judgement {
+pub enum Judgement {
     Divisible,
     UnknownMode, // 1
     BadPrecision, // 2
@@ -19,7 +19,7 @@ pub(crate) enum Judgement {
     ZeroDivisor, // 5
 }
 
-pub(crate) fn judged(p: Number, d: Number, code: u32, precision: u32) -> Judgement
+pub fn judged(p: Number, d: Number, code: u32, precision: u32) -> Judgement
     ensures { λ r. ⌜ IsJudged p d code precision r ⌝ }
 {
     // What rows 2 to 5 ask.

@@ -1,12 +1,7 @@
-// Division by the thirty-two steps of source document 001: `quotient` has the quotient, rounded once,
-// and `steps` the value after any step. What they answer stands in `answer`.
+// Division: `quotient` has the quotient, rounded once; what it answers stands in `answer`. What is asked
+// before, and the seed table, are shared with the thirty-two steps (crate `steps`).
 pub mod answer;
-mod digit;
-mod judgement;
-mod line;
+pub mod judgement;
 pub mod quotient;
-mod reciprocal;
-mod seed;
+pub mod seed;
 mod significands;
-pub mod steps;
-mod tasks;

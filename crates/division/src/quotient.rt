@@ -5,8 +5,8 @@ ghost use Rattle.numbers.specs.Answer.{outcome, rounded};
 ghost use Rattle.numbers.specs.Fraction.{value, quotient};
 ghost use Rattle.numbers.specs.Number.{isAdmissible};
 ghost use Rattle.division.specs.Quotient.{quotientOutcome, isZero, quotientOf};
-ghost use Rattle.division.specs.Run.{IsTask};
-ghost use Rattle.division.specs.Theorem.{IsAnswer};
+ghost use Rattle.division.specs.Judgement.{IsTask};
+ghost use Rattle.division.specs.Words.{IsGiven};
 use super::answer::Quotient;
 use super::judgement::Judgement;
 use super::judgement::judged;
@@ -70,17 +70,14 @@ fn divided(p: Number, d: Number, task: Task) -> Answer
     )
 }
 
-// The answer of a rounding as the answer of a division. 7 and 8 never come; 5 stands where they would.
+// The answer of a rounding as the answer of a division. No quotient is refused by its rounding; 5 stands
+// where a refusal would.
 fn answered(a: Answer) -> Quotient
-    requires { ⌜ IsAnswer 5 (outcome a) ⌝ }
+    requires { ⌜ IsGiven (outcome a) ⌝ }
     ensures { λ r. ⌜ quotientOutcome r ≡ outcome a ⌝ }
 {
-    match a {
-        Answer::Given(x) => Quotient::Given(x),
-        Answer::UnknownMode => Quotient::UnknownMode,
-        Answer::BadPrecision => Quotient::BadPrecision,
-        Answer::FirstUnfit => Quotient::FirstUnfit,
-        Answer::SecondUnfit => Quotient::SecondUnfit,
-        Answer::ExponentOutside | Answer::TooManyBits => Quotient::ZeroDivisor,
-    }
+    let Answer::Given(x) = a else {
+        return Quotient::ZeroDivisor;
+    };
+    Quotient::Given(x)
 }

@@ -1,14 +1,6 @@
-// Step 1: the seed of a divisor's reciprocal, from a table.
+// The seed table of document 01.
 ghost use mathlib.Core.Path.{_≡_};
-ghost use mathlib.Core.Bool.{true, false};
-ghost use Rattle.numbers.specs.Number.{isAdmissible};
-ghost use Rattle.numbers.specs.Answer.{outcome, rounded};
-ghost use Rattle.numbers.specs.Rounding.{claim};
-ghost use Rattle.division.specs.Quotient.{isZero};
-ghost use Rattle.division.specs.Run.{IsResult};
-ghost use Rattle.division.specs.Steps.{entryOf, indexOf, seed};
-use numbers::answer::Answer;
-use numbers::number::Number;
+ghost use Rattle.division.specs.Seed.{entryOf, indexOf};
 
 // T(k) for k from 0 to 127: the whole number nearest 65,536 / (257 + 2k).
 const SEEDS: [u8; 128] = [
@@ -143,31 +135,9 @@ const SEEDS: [u8; 128] = [
 ];
 
 // The entry of a significand: k is the seven bits after its leading one.
-pub(crate) fn entry_for(significand: u64) -> u8
+pub fn entry_for(significand: u64) -> u8
     ensures { λ r. ⌜ r ≡ entryOf (indexOf significand) ⌝ }
 {
     let k = (significand >> 56) % 128;
     SEEDS[k as usize]
-}
-
-// The seed of a divisor: its entry / 256 × 2^(−e), with the divisor's sign. An entry is 128 to 255, so
-// that entry / 256 has the exponent −1 and its eight bits are the top ones of a significand.
-pub(crate) fn seed(d: Number) -> Answer
-    requires { ⌜ (isAdmissible d ≡ true) × (isZero d ≡ false) ⌝ }
-    ensures { λ r. ⌜ (outcome r ≡ rounded (claim 8) (seed d)) × IsResult (outcome r) ⌝ }
-{
-    let Number::Finite {
-        negative,
-        exponent,
-        significand,
-    } = d
-    else {
-        return Answer::Given(Number::Zero);
-    };
-    let t = entry_for(significand);
-    Answer::Given(Number::Finite {
-        negative,
-        exponent: -1 - exponent,
-        significand: (t as u64) << 56,
-    })
 }

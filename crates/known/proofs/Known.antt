@@ -17,7 +17,7 @@ use Rattle.numbers.specs.declared.number.Number.the-variants.{Zero, Finite}
 use Rattle.arithmetic.specs.Operations.{operationOf, roundingOf, codedOf, sumOf, productOf}
 use Rattle.codes.specs.Codes.{doubleExtended, binary64, exponentBits, allOnes, leadingOne, split, join, decoded, normalized, isCanonical, judgedCode, numberOf, readingOf, fieldOf, belowNormal, encoded, equalCode, Lent, unwritten, packed, writingOf}
 use Rattle.division.specs.Quotient.{isZero, unlessIndivisible, quotientOf}
-use Rattle.division.specs.Steps.{nearest, entryOf}
+use Rattle.division.specs.Seed.{nearest, entryOf}
 
 -- what an operation, a division or a reading answers; what a writing leaves, its refusal and its bytes as one whole number; or an entry of the seed table
 pub data Result : Type 0 where

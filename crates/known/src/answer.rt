@@ -3,12 +3,12 @@
 use codes::code::Reading;
 use codes::code::Writing;
 use division::answer::Quotient;
-use division::answer::Step;
 use lines::buffer;
 use lines::number;
 use lines::out;
 use numbers::answer::Answer;
 use numbers::number::Number;
+use steps::answer::Step;
 
 // A number, or the row that refused.
 pub enum Outcome {

@@ -2,12 +2,12 @@
 use super::answer;
 use super::arguments;
 use super::arguments::Arguments;
-use division::steps::step;
 use lines::line;
 use lines::line::Cursor;
 use lines::line::Line;
 use lines::line::Place;
 use lines::line::Word;
+use steps::wanted::step;
 
 // Prints the answer to a line that begins with the token of a step; false where it does not.
 pub fn run(text: &Line, token: &[u8]) -> bool {

@@ -9,7 +9,7 @@ ghost use Rattle.numbers.specs.Answer.{outcome, checked, rounded};
 ghost use Rattle.numbers.specs.Number.{isWorkingExponent};
 ghost use Rattle.numbers.specs.Rounding.{goesUp, precisionOf};
 ghost use Rattle.numbers.specs.Grid.{digit};
-ghost use Rattle.numbers.specs.Cell.{wide, oddOf, endOf, cellRounding};
+ghost use Rattle.numbers.specs.Cell.{wide, endOf, cellRounding};
 ghost use Rattle.numbers.specs.Magnitude.{raise, scaledValue, roundedTop, claimedTop};
 use super::answer::Answer;
 use super::number::Number;

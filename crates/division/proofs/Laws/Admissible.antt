@@ -13,7 +13,7 @@ use Rattle.numbers.specs.declared.number.Number.the-variants.{Zero, Finite}
 use Rattle.numbers.proofs.Laws.Bias.{minus-down, minus-up, working}
 use Rattle.numbers.proofs.Laws.Fits.{zero-working}
 use Rattle.numbers.proofs.Laws.Working.{fit-parts}
-use Rattle.division.proofs.Laws.Terms.{IsRemainder}
+use Rattle.division.proofs.Laws.Range.{IsRemainder}
 
 admissible-biased : (e : ℤ) → isAdmissibleExponent e ≡ true → (b : ℕ) × (e ≡ minus b 65535) × (49089 ≤ b) × (b ≤ 81919)
 unfolding isAdmissibleExponent isBetween

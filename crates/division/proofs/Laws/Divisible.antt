@@ -1,28 +1,25 @@
--- The refusals in the table's order: what the tests of rows 2 and 6 say, and what `unlessIndivisible`, rows 1 to 5, is behind each test. Rows 1 to 4
+-- The refusals in the table's order: what the test of row 2 says, and what `unlessIndivisible`, rows 1 to 5, is behind each test. Rows 1 to 4
 -- are those of every operation.
-use mathlib.Core.Path.{_≡_, subst, _∙_}
+use mathlib.Core.Path.{_≡_, refl, sym, subst, _∙_}
 use mathlib.Core.Bool.{true, false}
-use Prim.Native.Nat.{ℕ, _≤_, _<_}
-use Rattle.numbers.specs.Answer.{Outcome, refused}
+use Prim.Native.Nat.{ℕ, zero, suc, _≤_, _<_}
+use native.Mathlib.Omega.{arith}
+use Rattle.numbers.specs.Answer.{Outcome, refused, rounded}
+use Rattle.numbers.specs.Fraction.{value, quotient}
 use Rattle.numbers.specs.Number.{isAdmissible}
-use Rattle.numbers.specs.Rounding.{taskOf, isPrecision}
+use Rattle.numbers.specs.Rounding.{byMode, taskOf, isPrecision}
 use Rattle.numbers.specs.declared.number.Number.{Number}
+use Rattle.numbers.specs.declared.task.Mode.{Mode}
+use Rattle.numbers.specs.declared.task.Mode.the-variants.{Trunc, Away, Near, Sticky, Up, Down}
 use Rattle.numbers.specs.declared.task.Task.{Task}
 use Rattle.numbers.proofs.Laws.Refusals as rows
-use Rattle.numbers.proofs.Laws.Tests.{range-true}
-use Rattle.division.specs.Quotient.{isZero, unlessIndivisible}
-use Rattle.division.specs.Run.{IsTask, IsJudged}
-use Rattle.division.specs.Theorem.{IsTaken}
-use Rattle.division.specs.Wanted.{isStep}
+use Rattle.division.specs.Quotient.{isZero, unlessIndivisible, quotientOf}
+use Rattle.division.specs.Judgement.{IsTaken, IsJudged, IsTask}
 use Rattle.division.specs.declared.judgement.Judgement.{Judgement}
 
--- what the tests of rows 2 and 6 say of a task and of a step
+-- what the test of row 2 says of a task
 pub task-range : (task : Task) (code n : ℕ) → task ≡ taskOf code n → isPrecision n ≡ true → IsTask task
 task-range task code n is precise = rw (is, rows.task-precision code n) (rows.precision-range n precise)
-
-pub step-range : (k : ℕ) → isStep k ≡ true → (1 ≤ k) × (k ≤ 32)
-unfolding isStep
-step-range k h = range-true 1 32 k h
 
 module _ (p d : Number) (code n : ℕ) (answer : Outcome) where
   pub unknown-mode : 5 < code → refused 1 ≡ unlessIndivisible p d code n answer
@@ -56,6 +53,21 @@ module _ (p d : Number) (code n : ℕ) (answer : Outcome) where
 -- a pair that no row refuses
 pub taken : {p d : Number} {code n : ℕ} → IsTaken p d code n → (x : Outcome) → x ≡ unlessIndivisible p d code n x
 taken {p} {d} {code} {n} is x = divisible p d code n x (is .mode) (rows.range-precision n (is .precise .0) (is .precise .1)) (is .dividend) (is .divisor) (is .nonzero)
+
+pub quotient-taken : {p d : Number} {code n : ℕ} → IsTaken p d code n → quotientOf p d code n ≡ rounded (taskOf code n) (quotient (value p) (value d))
+unfolding quotientOf
+quotient-taken {p} {d} {code} {n} is = sym (taken is (rounded (taskOf code n) (quotient (value p) (value d))))
+
+-- the mode of a code from 0 to 5
+pub mode-of : (code n : ℕ) → code ≤ 5 → (mode : Mode) × (taskOf code n ≡ byMode mode n)
+unfolding taskOf
+mode-of zero n h = (Trunc, refl)
+mode-of (suc zero) n h = (Away, refl)
+mode-of (suc (suc zero)) n h = (Near, refl)
+mode-of (suc (suc (suc zero))) n h = (Sticky, refl)
+mode-of (suc (suc (suc (suc zero)))) n h = (Up, refl)
+mode-of (suc (suc (suc (suc (suc zero))))) n h = (Down, refl)
+mode-of (suc (suc (suc (suc (suc (suc k)))))) n h = absurd (omega arith)
 
 -- the case of a judgement that a match has found
 pub judged-as : (p d : Number) (code n : ℕ) (r b : Judgement) → IsJudged p d code n r → r ≡ b → IsJudged p d code n b

@@ -1,38 +1,44 @@
 -- The quotient of two admissible numbers lies in the cell of its digits, and so the rounding of that cell is its rounding.
 use mathlib.Core.Path.{_≡_, refl, sym, subst, ap, ap₂, _∙_}
-use mathlib.Core.Bool.{Bool, true, false}
-use Prim.Native.Nat.{ℕ, _+_, _*_, _^_, _≤_, _<_}
-use native.Mathlib.Nat.{eq-of-mul-eq-mul-right, le-of-lt, lt-of-mul-lt-mul-right, mul-le-mul-left, mul-le-mul-right, mul-lt-mul-of-pos-right, mul-pos}
+use mathlib.Core.Bool.{Bool, true, false, cond, false≢true}
+use Prim.Native.Nat.{ℕ, suc, _+_, _-_, _*_, _/_, _%_, _^_, _≤_, _<_}
+use native.Mathlib.Nat.{div-add-mod', mod-lt, eq-of-mul-eq-mul-right, le-of-lt, lt-of-mul-lt-mul-right, mul-le-mul-left, mul-le-mul-right, mul-lt-mul-of-pos-right, mul-pos}
 use native.Mathlib.Omega.{arith}
 use borrow.Author.Tests.{ltb-true, ltb-false}
-use lib.Dec.{ltb}
+use lib.Dec.{ltb, eqb}
 use lib.Ieee.{unlike, minus}
-use lib.IntN.{ℤ, pos, natAbs, _-ℤ_}
+use lib.IntN.{ℤ, pos, natAbs, sucℤ, _-ℤ_}
 use lib.Pow.{pow-add, pow-pos, pow-mono}
 use mir.Facts.{toZ-ofZ}
 use mir.Syntax.{w32}
 use mir.Val.{SFits, toZ, ofZ}
-use Rattle.numbers.specs.Answer.{rounded}
+use Rattle.numbers.specs.Answer.{rounded, checked}
 use Rattle.numbers.specs.Cell.{endOf, cellRounding}
 use Rattle.numbers.specs.Fraction.{Fraction, IsFraction, value, quotient, signed}
 use Rattle.numbers.specs.Grid.{InCell}
-use Rattle.numbers.specs.Number.{isAdmissible}
-use Rattle.numbers.specs.Rounding.{isNegative, precisionOf}
+use Rattle.numbers.specs.Number.{isWorkingExponent, isAdmissible}
+use Rattle.numbers.specs.Rounding.{placed, byMode, precisionOf}
 use Rattle.numbers.specs.declared.number.Number.{Number}
-use Rattle.numbers.specs.declared.number.Number.the-variants.{Finite}
+use Rattle.numbers.specs.declared.number.Number.the-variants.{Zero, Finite}
+use Rattle.numbers.specs.declared.task.Mode.{Mode}
 use Rattle.numbers.specs.declared.task.Task.{Task}
-use Rattle.numbers.proofs.Laws.Bias.{minus-minus, minus-less}
-use Rattle.numbers.proofs.Laws.Exponent.{minus-same}
+use Rattle.numbers.proofs.Laws.Bias.{minus-minus, minus-less, working}
+use Rattle.numbers.proofs.Laws.Cell.{round-cell}
+use Rattle.numbers.proofs.Laws.Exponent.{minus-same, suc-minus}
+use Rattle.numbers.proofs.Laws.Fractions.{quotient-zero}
+use Rattle.numbers.proofs.Laws.Powers.{top-bit, below-top}
 use Rattle.numbers.proofs.Laws.Refusals.{range-precision}
 use Rattle.numbers.proofs.Laws.Round.{grid-rounds, scaled-binary}
 use Rattle.numbers.proofs.Laws.Signed.{minus-fits}
 use Rattle.numbers.proofs.Laws.Signs.{signed-abs}
-use Rattle.division.specs.Run.{IsTask}
-use Rattle.division.specs.Words.{IsSignificand, IsQuotient}
+use Rattle.numbers.proofs.Laws.Value.{rounded-zero}
+use Rattle.division.specs.Quotient.{isZero}
+use Rattle.division.specs.Judgement.{IsTask}
+use Rattle.division.specs.Words.{IsSignificand, IsQuotient, IsGiven}
 use Rattle.division.proofs.Laws.Admissible.{admissible-parts}
 use Rattle.division.proofs.Laws.Quotients.{positive, quotient-size, quotient-sign}
-use Rattle.division.proofs.Laws.Scaled.{IsScaled, origin, finite-scaled, moved}
-use Rattle.division.proofs.Laws.Terms.{InRange, IsRemainder}
+use Rattle.division.proofs.Laws.Scaled.{IsScaled, origin, finite-scaled, zero-value, moved}
+use Rattle.division.proofs.Laws.Range.{IsRemainder}
 
 -- over plain numbers: N × D is (Q D + R) × E, so N lies in the cell Q of the grid E
 cell-of-digits : (N E D Q R : ℕ) → 0 < E → R < D → N * D ≡ (Q * D + R) * E → InCell (ltb 0 R) N Q E
@@ -52,6 +58,19 @@ enough : (k v P D Q R : ℕ) → 0 < v → k ≤ P → D < 2 * k → P * (2 * v)
 enough k v P D Q R v0 top word h r =
     let l : v < Q + 1 = lt-of-mul-lt-mul-right (2 * k) (omega (arith, h, r, mul-le-mul-right (2 * v) top, mul-le-mul-left (Q + 1) (le-of-lt word))) in
     omega arith
+
+-- and 82 at the most
+few : (k v P D Q R : ℕ) → k ≤ D → P < 2 * k → P * (2 * v) ≡ Q * D + R → 0 < v → Q < 4 * v
+few k v P D Q R top word h v0 = lt-of-mul-lt-mul-right k (omega (arith, h, mul-le-mul-left Q top, mul-lt-mul-of-pos-right {k = 2 * v} word (omega arith)))
+
+-- a number whose exponent is working, with or without a carry, is given
+placed-given : (s : Bool) (e : ℤ) (n q : ℕ) → isWorkingExponent e ≡ true → isWorkingExponent (sucℤ e) ≡ true → IsGiven (checked (placed s e n q))
+unfolding placed checked IsGiven
+placed-given s e n q h k = go (eqb q (2 ^ n))
+  where
+    go : (carry : Bool) → IsGiven (checked (cond carry (Finite s (sucℤ e) (2 ^ 63)) (Finite s e (q * 2 ^ (64 - n)))))
+    go true = rw k tt
+    go false = rw h tt
 
 module _ (p d : Number) (t s : Bool) (e f : ℤ) (P D : ℕ) (p-is : p ≡ Finite t e P) (d-is : d ≡ Finite s f D)
     (p-fit : isAdmissible p ≡ true) (d-fit : isAdmissible d ≡ true) where
@@ -131,3 +150,30 @@ module _ (p d : Number) (t s : Bool) (e f : ℤ) (P D : ℕ) (p-is : p ≡ Finit
         rw (p-is, d-is, is, range-precision (precisionOf task) (n .0) (n .1))
         (sym (scaled-binary task (unlike t s) (endOf Q (ltb 0 R)) a (b + 81) (n .0))
         ∙ sym (grid-rounds task (unlike t s) x Q a (b + 81) x0 sign (n .0) (ltb 0 R) (λ (h : ltb 0 R ≡ true). fine (precisionOf task) (n .1)) cell))
+
+    -- in every mode the quotient is given: its exponent is far inside the working range
+    finite-given : (mode : Mode) (n : ℕ) → 1 ≤ n → n ≤ 64 → IsGiven (rounded (byMode mode n) x)
+    unfolding rounded
+    finite-given mode n n0 n1 =
+        let least = enough (2 ^ 63) (2 ^ 80) P D Q R (pow-pos 80) (p-parts .2 .top) (d-parts .2 .word) (digits .parts) (digits .below) in
+        let most = few (2 ^ 63) (2 ^ 80) P D Q R (d-parts .2 .top) (p-parts .2 .word) (digits .parts) (pow-pos 80) in
+        let bit = top-bit Q (omega (arith, least)) in
+        let low : 80 ≤ bit .0 = below-top 80 (bit .0) Q least (bit .2) in
+        let high : bit .0 ≤ 81 = below-top (bit .0) 81 Q (bit .1) most in
+        let i = bit .0 + a in
+        let o = b + 81 in
+        rw (round-cell x (ltb 0 R) a (b + 81) Q (bit .0) n x0 n0 (omega arith) (bit .1) (bit .2) cell mode)
+        (placed-given _ (minus i o) n _ (working i o (omega (arith, d-parts .2 .highest, p-parts .2 .lowest)) (omega (arith, p-parts .2 .highest, d-parts .2 .lowest)))
+        (rw (suc-minus i o) (working (suc i) o (omega (arith, d-parts .2 .highest, p-parts .2 .lowest)) (omega (arith, p-parts .2 .highest, d-parts .2 .lowest)))))
+
+pub quotient-given : (p d : Number) → isAdmissible p ≡ true → isAdmissible d ≡ true → isZero d ≡ false → (mode : Mode) (n : ℕ) → 1 ≤ n → n ≤ 64
+    → IsGiven (rounded (byMode mode n) (quotient (value p) (value d)))
+unfolding isZero IsGiven
+quotient-given p Zero p-fit d-fit nonzero mode n n0 n1 = absurd (false≢true (sym nonzero))
+quotient-given Zero (Finite s f D) p-fit d-fit nonzero mode n n0 n1 =
+    rw (rounded-zero (byMode mode n) (quotient (value Zero) (value (Finite s f D))) (quotient-zero (value Zero) (value (Finite s f D)) zero-value)) tt
+quotient-given (Finite t e P) (Finite s f D) p-fit d-fit nonzero mode n n0 n1 =
+    let parts = admissible-parts (Finite s f D) d-fit in
+    let D0 : 0 < D = omega (arith, parts .2 .top) in
+    finite-given (Finite t e P) (Finite s f D) t s e f P D refl refl p-fit d-fit (P * 2 ^ 81 / D) (P * 2 ^ 81 % D)
+    (record { parts = sym (div-add-mod' (P * 2 ^ 81) D); below = mod-lt (P * 2 ^ 81) D0 }) mode n n0 n1

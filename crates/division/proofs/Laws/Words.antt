@@ -1,14 +1,14 @@
 -- The quotient of two significands on words: the reciprocal's products fit and its error is that of Newton's steps, and a digit is the quotient's or one less.
-use mathlib.Core.Path.{_≡_, refl, sym, ap, _∙_}
+use mathlib.Core.Path.{_≡_, sym, ap, _∙_}
 use Prim.Native.Nat.{ℕ, _+_, _-_, _*_, _/_, _%_, _^_, _≤_, _<_}
-use native.Mathlib.Nat.{div-add-mod', mul-le-mul, mul-le-mul-left, mul-le-mul-right, mul-lt-mul-of-pos-right, le-of-mul-le-mul-right, lt-of-mul-lt-mul-right, le-of-lt}
+use native.Mathlib.Nat.{div-add-mod', mul-le-mul, mul-le-mul-left, mul-le-mul-right, mul-lt-mul-of-pos-right, le-of-mul-le-mul-right, lt-of-mul-lt-mul-right}
 use native.Mathlib.Omega.{arith}
 use Rattle.numbers.specs.Cell.{wide}
-use Rattle.division.specs.Steps.{indexOf}
+use Rattle.division.specs.Seed.{indexOf}
 use Rattle.division.specs.Words.{IsSignificand, refinedWord, HasProducts, IsReciprocalWord, IsQuotient}
 use Rattle.division.proofs.Laws.Newton.{IsNear, IsTurned, IsCloser, product-word, has-complement, refined-word, closer, next-near, last-close}
-use Rattle.division.proofs.Laws.Seed.{entryFor, entry-range, index-below, seed-close}
-use Rattle.division.proofs.Laws.Terms.{half, half-is, half-square, half-cube}
+use Rattle.division.proofs.Laws.Seeds.{entryFor, entry-range, index-below, seed-close}
+use Rattle.division.proofs.Laws.Range.{half, half-is, half-square, half-cube}
 
 -- ---- the reciprocal: twice the word x is Newton's reciprocal
 

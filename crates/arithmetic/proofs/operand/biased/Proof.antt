@@ -7,7 +7,6 @@ use lib.IntN.{ℤ, pos, _+ℤ_}
 use mir.Facts.{toZ-ofZ}
 use mir.Syntax.{w32}
 use mir.Val.{SFits, toZ, ofZ}
-use borrow.Author.Needs.{needs}
 use Rattle.numbers.specs.Number.{isWorkingExponent}
 use Rattle.numbers.proofs.Laws.Bias.{biased-working}
 use Rattle.arithmetic.proofs.operand.biased.Statement.{statement}

@@ -8,7 +8,7 @@ use Rattle.numbers.specs.Number.{isAdmissible}
 use Rattle.numbers.specs.Rounding.{isPrecision}
 use Rattle.numbers.proofs.Laws.Refusals.{precision-range}
 use Rattle.division.specs.Quotient.{isZero}
-use Rattle.division.specs.Run.{IsJudged}
+use Rattle.division.specs.Judgement.{IsJudged}
 use Rattle.division.proofs.Laws.Divisible.{unknown-mode, bad-precision, first-unfit, second-unfit, zero-divisor}
 use Rattle.division.proofs.judgement.judged.Statement.{statement}
 use Rattle.division.proofs.judgement.judged.Tie as tie

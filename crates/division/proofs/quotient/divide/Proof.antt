@@ -1,5 +1,5 @@
--- `division::quotient::divide` meets its contract: a row that refuses is passed on, and with none the rounded quotient is, which is a number (Theorem).
-use mathlib.Core.Path.{_≡_, sym, subst, ap, _∙_}
+-- `division::quotient::divide` meets its contract: a row that refuses is passed on, and with none the rounded quotient is, which is a number (Laws.Rounds).
+use mathlib.Core.Path.{_≡_, sym, ap, _∙_}
 use Prim.Native.Nat.{ℕ}
 use borrow.Author.Needs.{needs}
 use Rattle.numbers.specs.Answer.{Outcome, rounded}
@@ -9,11 +9,11 @@ use Rattle.numbers.specs.declared.number.Number.{Number}
 use Rattle.numbers.specs.declared.task.Task.{Task}
 use Rattle.numbers.proofs.Laws.Refusals.{range-precision}
 use Rattle.division.specs.Quotient.{quotientOutcome, quotientOf}
-use Rattle.division.specs.Run.{IsTask, IsJudged}
-use Rattle.division.specs.Theorem.{IsTaken, IsAnswer}
+use Rattle.division.specs.Judgement.{IsTaken, IsJudged, IsTask}
+use Rattle.division.specs.Words.{IsGiven}
 use Rattle.division.specs.declared.judgement.Judgement.the-variants.{Divisible, UnknownMode, BadPrecision, FirstUnfit, SecondUnfit, ZeroDivisor}
-use Rattle.division.proofs.Laws.Divisible.{task-range, judged-as}
-use Rattle.division.proofs.Theorem.{quotient-taken, quotient-answers}
+use Rattle.division.proofs.Laws.Divisible.{task-range, quotient-taken, mode-of, judged-as}
+use Rattle.division.proofs.Laws.Rounds.{quotient-given}
 use Rattle.division.proofs.quotient.divide.Statement.{statement}
 use Rattle.division.proofs.quotient.divide.Tie as tie
 
@@ -24,10 +24,12 @@ module _ {p d : Number} {code n : ℕ} (is : IsTaken p d code n) {task : Task} (
   -- what is rounded is the quotient's answer, and so a number
   module _ {x : Outcome} (e : x ≡ rounded task (quotient (value p) (value d))) where
     answer-is : x ≡ quotientOf p d code n
-    answer-is = e ∙ ap (λ (t : Task). rounded t (quotient (value p) (value d))) named ∙ sym (quotient-taken p d code n is)
+    answer-is = e ∙ ap (λ (t : Task). rounded t (quotient (value p) (value d))) named ∙ sym (quotient-taken is)
 
-    is-answer : IsAnswer 5 x
-    is-answer = subst (IsAnswer 5) (sym answer-is) (quotient-answers p d code n)
+    is-given : IsGiven x
+    is-given =
+        let m = mode-of code n (is .mode) in
+        rw (e ∙ ap (λ (t : Task). rounded t (quotient (value p) (value d))) (named ∙ m .1)) (quotient-given p d (is .dividend) (is .divisor) (is .nonzero) (m .0) n (is .precise .0) (is .precise .1))
 
 judged-requires : tie.Need-judged-requires
 judged-requires c κs = search needs
@@ -63,7 +65,7 @@ divided-requires c κs =
     (is .dividend, is .divisor, is .nonzero, fit is (c .task-of .ensures))
 
 answered-requires : tie.Need-answered-requires
-answered-requires c κs = is-answer (divisible (c .before .before)) (c .before .task-of .ensures) (c .divided .ensures)
+answered-requires c κs = is-given (divisible (c .before .before)) (c .before .task-of .ensures) (c .divided .ensures)
 
 returns : tie.Need-returns
 unfolding quotientOutcome quotientOf IsJudged

@@ -1,9 +1,9 @@
 -- `division::significands::reciprocal_of` meets its contract: the seed is near, and each step is nearer (Laws.Words).
-use mathlib.Core.Path.{_≡_, sym, ap, subst, _∙_}
+use mathlib.Core.Path.{_≡_, ap}
 use Prim.Native.Nat.{ℕ, _*_, _^_}
 use borrow.Author.Needs.{needs}
 use Rattle.division.specs.Words.{IsSignificand, refinedWord, HasProducts, IsReciprocalWord}
-use Rattle.division.proofs.Laws.Seed.{entryFor}
+use Rattle.division.proofs.Laws.Seeds.{entryFor}
 use Rattle.division.proofs.Laws.Words.{roundedUp, seed-near, products, next, reciprocal-word}
 use Rattle.division.proofs.significands.reciprocal_of.Statement.{statement}
 use Rattle.division.proofs.significands.reciprocal_of.Tie as tie

@@ -7,8 +7,8 @@ use borrow.Author.Tests.{not-true, not-false}
 use lib.Ieee.{minus}
 use lib.IntN.{ℤ}
 use mir.Facts.{toZ-ofZ}
-use Rattle.numbers.specs.Answer.{Outcome, outcome, rounded}
-use Rattle.numbers.specs.Cell.{endOf, binary, cellRounding}
+use Rattle.numbers.specs.Answer.{outcome, rounded}
+use Rattle.numbers.specs.Cell.{endOf, cellRounding}
 use Rattle.numbers.specs.Magnitude.{raise, scaledValue}
 use Rattle.numbers.specs.Rounding.{precisionOf, isPrecision}
 use Rattle.numbers.specs.declared.answer.Answer.the-variants.{BadPrecision}

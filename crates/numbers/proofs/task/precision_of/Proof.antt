@@ -1,5 +1,4 @@
 -- `numbers::task::precision_of` meets its contract, by the two cases of a task.
-use mathlib.Core.Path.{sym, ap}
 use borrow.Author.Needs.{needs}
 use Rattle.numbers.specs.Rounding.{precisionOf}
 use Rattle.numbers.proofs.task.precision_of.Statement.{statement}

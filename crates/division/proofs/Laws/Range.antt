@@ -1,0 +1,34 @@
+-- Half a word, and the operands of a division by their biased exponents.
+use mathlib.Core.Path.{_≡_, refl}
+use Prim.Native.Nat.{ℕ, _*_, _^_, _≤_, _<_}
+use lib.Ieee.{minus}
+use Rattle.numbers.specs.declared.number.Number.{Number}
+use Rattle.numbers.specs.declared.number.Number.the-variants.{Zero, Finite}
+
+-- half a word, kept as a name so that its powers stay products
+unfoldable pub half : ℕ
+half = 2 ^ 32
+
+pub half-is : half ≡ 2 ^ 32
+unfolding half
+half-is = refl
+
+pub half-square : half * half ≡ 2 ^ 64
+unfolding half
+half-square = refl
+
+pub half-cube : half * half * half ≡ 2 ^ 96
+unfolding half
+half-cube = refl
+
+-- a biased exponent from c to the highest admissible one, 81,919, and a significand; 49,089 is the lowest admissible one
+pub record InRange (c b S : ℕ) : Type 0 where
+  pub lowest : c ≤ b
+  pub highest : b ≤ 81919
+  pub top : 2 ^ 63 ≤ S
+  pub word : S < 2 ^ 64
+
+-- zero, or a number whose biased exponent is c at least
+abbrev pub IsRemainder : ℕ → Number → Type 0
+IsRemainder c Zero = Unit {0}
+IsRemainder c (Finite s e S) = (a : ℕ) × (e ≡ minus a 65535) × InRange c a S

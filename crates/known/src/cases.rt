@@ -6,7 +6,7 @@ use super::formats::Format;
 use super::operations;
 use super::operations::Operation;
 use super::rounding;
-use super::steps;
+use super::wanted;
 use lines::line::Line;
 
 // Prints the answer to a line. What runs a case says whether the line begins with its token.
@@ -36,7 +36,7 @@ fn run_operations(text: &Line) -> bool {
     if rounding::run(text, b"round") {
         return true;
     }
-    steps::run(text, b"step")
+    wanted::run(text, b"step")
 }
 
 fn run_codes(text: &Line) -> bool {

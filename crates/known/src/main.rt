@@ -6,7 +6,7 @@ mod cases;
 mod formats;
 mod operations;
 mod rounding;
-mod steps;
+mod wanted;
 
 use lines::line;
 

@@ -80,19 +80,15 @@ fn next_digit(remainder: u64, d: u64, reciprocal: u64) -> Digit
     let low = 0x2000_0000_0000_0000 + r0 * DIGIT - digit * d0;
     let left1 = r1 * DIGIT + low / HALF - (digit * d1 + 0x2000_0000);
     let left0 = low % HALF;
-    // The same less d, with 2^32 lent: `over` is above d1 where d can be taken off.
+    // The same less d, with 2^32 lent: `over` is above d1 where d can be taken off. No branch depends on
+    // it: the correction is a digit, 0 or 1.
     let lent = HALF + left0 - d0;
     let over = left1 + lent / HALF;
-    if over <= d1 {
-        Digit {
-            value: digit,
-            remainder: left1 * HALF + left0,
-        }
-    } else {
-        Digit {
-            value: digit + 1,
-            remainder: (over - d1 - 1) * HALF + lent % HALF,
-        }
+    let correction = (over > d1) as u64;
+    let left = left1 % HALF * HALF + left0;
+    Digit {
+        value: digit + correction,
+        remainder: std::num::wrapping_sub_u64(left, correction * d),
     }
 }
 

@@ -1,8 +1,12 @@
 -- The quotient of two significands on words: the reciprocal's products fit and its error is that of Newton's steps, and a digit is the quotient's or one less.
 use mathlib.Core.Path.{_≡_, sym, ap, _∙_}
+use mathlib.Core.Bool.{Bool, true, false}
 use Prim.Native.Nat.{ℕ, _+_, _-_, _*_, _/_, _%_, _^_, _≤_, _<_}
 use native.Mathlib.Nat.{div-add-mod', mul-le-mul, mul-le-mul-left, mul-le-mul-right, mul-lt-mul-of-pos-right, le-of-mul-le-mul-right, lt-of-mul-lt-mul-right}
 use native.Mathlib.Omega.{arith}
+use borrow.Author.Tests.{ltb-true, ltb-false}
+use lib.Dec.{ltb}
+use mir.Val.{boolByte}
 use Rattle.numbers.specs.Cell.{wide}
 use Rattle.division.specs.Seed.{indexOf}
 use Rattle.division.specs.Words.{IsSignificand, refinedWord, HasProducts, IsReciprocalWord, IsQuotient}
@@ -181,22 +185,37 @@ module _ (D R q : ℕ) (word : D < 2 ^ 64) (small : q < 2 ^ 28) (below : q * D �
   pub left-is : (R / 2 ^ 32 * 2 ^ 27 + low / 2 ^ 32 - (q * (D / 2 ^ 32) + 2 ^ 29)) * 2 ^ 32 + low % 2 ^ 32 + q * D ≡ R * 2 ^ 27
   left-is = omega (arith, parts, low-product, left-fits)
 
--- what is left, a × 2^32 + b, is below D or becomes so
+-- what is left, T, less D where it is not below D, as a word that wraps
+same-word : (D T R : ℕ) → T < D → D < 2 ^ 64 → R < 2 ^ 64 → (R + 0 * D) % 2 ^ 64 ≡ T % 2 ^ 64 → R ≡ T
+same-word D T R t word r h = omega arith
+
+less-word : (D T R : ℕ) → D ≤ T → T < 2 * D → D < 2 ^ 64 → R < 2 ^ 64 → (R + 1 * D) % 2 ^ 64 ≡ T % 2 ^ 64 → R + D ≡ T
+less-word D T R t t1 word r h = omega arith
+
 module _ (D M q a b : ℕ) (left : a * 2 ^ 32 + b + q * D ≡ M) (half-word : b < 2 ^ 32) (above : M < (q + 2) * D) (word : D < 2 ^ 64) where
-  abbrev lent : ℕ
-  lent = 2 ^ 32 + b - D % 2 ^ 32
+  abbrev T : ℕ
+  T = a * 2 ^ 32 + b
 
   abbrev over : ℕ
-  over = a + lent / 2 ^ 32
+  over = a + (2 ^ 32 + b - D % 2 ^ 32) / 2 ^ 32
 
-  pub stays : over ≤ D / 2 ^ 32 → IsQuotient M D q (a * 2 ^ 32 + b)
-  stays h = record { parts = omega arith; below = omega arith }
+  wrapped : a % 2 ^ 32 * 2 ^ 32 + b ≡ T % 2 ^ 64
+  wrapped = omega arith
 
-  pub goes-up : D / 2 ^ 32 < over → IsQuotient M D (q + 1) ((over - D / 2 ^ 32 - 1) * 2 ^ 32 + lent % 2 ^ 32)
-  goes-up h = record { parts = omega arith; below = omega arith }
+  below-twice : T < 2 * D
+  below-twice = omega arith
 
-  pub remainder-fits : D / 2 ^ 32 < over → (over - D / 2 ^ 32 - 1) * 2 ^ 32 + lent % 2 ^ 32 < 2 ^ 64
-  remainder-fits h = let k = goes-up h .below in omega arith
+  pub corrected : (more : Bool) → more ≡ ltb (D / 2 ^ 32) over → (R : ℕ) → R < 2 ^ 64 → (R + boolByte more * D) % 2 ^ 64 ≡ a % 2 ^ 32 * 2 ^ 32 + b → IsQuotient M D (q + boolByte more) R
+  corrected false e R r h =
+      let l = ltb-false (D / 2 ^ 32) over (sym e) in
+      let t : T < D = omega (arith, l) in
+      let same : R ≡ T = same-word D T R t word r (h ∙ wrapped) in
+      record { parts = rw same (omega arith); below = rw same t }
+  corrected true e R r h =
+      let l = ltb-true (D / 2 ^ 32) over (sym e) in
+      let t : D ≤ T = omega (arith, l) in
+      let less : R + D ≡ T = less-word D T R t below-twice word r (h ∙ wrapped) in
+      record { parts = omega (arith, less); below = omega (arith, less, below-twice) }
 
 -- ---- the digits together
 

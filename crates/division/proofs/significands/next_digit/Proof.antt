@@ -1,11 +1,14 @@
 -- `division::significands::next_digit` meets its contract: the estimate is the digit or one less, and what is left is exact in two halves (Laws.Words).
-use mathlib.Core.Path.{_≡_}
+use mathlib.Core.Path.{_≡_, refl}
+use mathlib.Core.Bool.{Bool, true, false}
 use Prim.Native.Nat.{ℕ, _+_, _-_, _*_, _/_, _%_, _^_, _≤_, _<_}
 use native.Mathlib.Omega.{arith}
 use borrow.Author.Needs.{needs}
+use lib.Dec.{ltb}
 use mir.Facts.{fits-of-lt}
+use mir.Val.{boolByte}
 use Rattle.division.specs.Words.{IsSignificand, IsReciprocalWord, IsQuotient}
-use Rattle.division.proofs.Laws.Words.{product-fits, digit-product-fits, digit-product-more, digit-product-lent, estimate, estimate-small, estimate-below, estimate-above, left-fits, left-is, stays, goes-up, remainder-fits}
+use Rattle.division.proofs.Laws.Words.{product-fits, quotient-small, digit-product-fits, digit-product-more, digit-product-lent, estimate, estimate-small, estimate-below, estimate-above, left-fits, left-is, corrected}
 use Rattle.division.proofs.significands.next_digit.Statement.{statement}
 use Rattle.division.proofs.significands.next_digit.Tie as tie
 
@@ -41,20 +44,21 @@ module _ {D X R : ℕ} (d : IsSignificand D) (x : IsReciprocalWord D X) (r : R <
   half-word : left0 < 2 ^ 32
   half-word = omega arith
 
-  abbrev lent : ℕ
-  lent = 2 ^ 32 + left0 - D % 2 ^ 32
+  -- is it corrected?
+  abbrev more : Bool
+  more = ltb (D / 2 ^ 32) (left1 + (2 ^ 32 + left0 - D % 2 ^ 32) / 2 ^ 32)
 
-  abbrev over : ℕ
-  over = left1 + lent / 2 ^ 32
+  is-quotient : (S : ℕ) → S < 2 ^ 64 → (S + boolByte more * D) % 2 ^ 64 ≡ left1 % 2 ^ 32 * 2 ^ 32 + left0 → IsQuotient (R * 2 ^ 27) D (q + boolByte more) S
+  is-quotient S s h = corrected D (R * 2 ^ 27) q left1 left0 left half-word above (d .word) more refl S s h
 
-  kept : over ≤ D / 2 ^ 32 → IsQuotient (R * 2 ^ 27) D q (left1 * 2 ^ 32 + left0)
-  kept h = stays D (R * 2 ^ 27) q left1 left0 left half-word above (d .word) h
+-- a digit, and a word where there is a correction
+digit-fits : (more : Bool) (q : ℕ) → q < 2 ^ 28 → q + boolByte more < 2 ^ 64
+digit-fits false q h = omega arith
+digit-fits true q h = omega arith
 
-  corrected : D / 2 ^ 32 < over → IsQuotient (R * 2 ^ 27) D (q + 1) ((over - D / 2 ^ 32 - 1) * 2 ^ 32 + lent % 2 ^ 32)
-  corrected h = goes-up D (R * 2 ^ 27) q left1 left0 left half-word above (d .word) h
-
-  fits : D / 2 ^ 32 < over → (over - D / 2 ^ 32 - 1) * 2 ^ 32 + lent % 2 ^ 32 < 2 ^ 64
-  fits h = remainder-fits D (R * 2 ^ 27) q left1 left0 left half-word above (d .word) h
+taken-fits : (more : Bool) (D : ℕ) → D < 2 ^ 64 → boolByte more * D < 2 ^ 64
+taken-fits false D h = omega arith
+taken-fits true D h = omega arith
 
 mul-digit : tie.Need-mul-digit
 mul-digit c = fits-of-lt (product-fits _ _ (omega (arith, c .fits .remainder .fits)) (c .pre .1 .word))
@@ -95,32 +99,28 @@ sub-lent c = search needs
 add-over : tie.Need-add-over
 add-over c = search needs
 
-mul-t21 : tie.Need-mul-t21
-mul-t21 c = search needs
+cast-correction : tie.Need-cast-correction
+cast-correction c = search needs
 
-add-t22 : tie.Need-add-t22
-add-t22 c = search needs
+mul-left : tie.Need-mul-left
+mul-left c = search needs
 
-add-t23 : tie.Need-add-t23
-add-t23 c = record { fits = omega (arith, small (c .before .pre .0) (c .before .pre .1) (c .before .pre .2)) }
+add-left : tie.Need-add-left
+add-left c = search needs
 
-sub-t24 : tie.Need-sub-t24
-sub-t24 c = search needs
+add-t20 : tie.Need-add-t20
+add-t20 c = fits-of-lt (digit-fits (more (c .pre .0) (c .pre .1) (c .pre .2)) _ (quotient-small _ _ (omega (arith, c .fits .remainder .fits)) (c .pre .1 .word)))
 
-sub-t25 : tie.Need-sub-t25
-sub-t25 c = search needs
+mul-wrapping-sub-u64 : tie.Need-mul-wrapping-sub-u64
+mul-wrapping-sub-u64 c = fits-of-lt (taken-fits (more (c .pre .0) (c .pre .1) (c .pre .2)) _ (c .pre .0 .word))
 
-mul-t26 : tie.Need-mul-t26
-mul-t26 c = let l = fits (c .before .pre .0) (c .before .pre .1) (c .before .pre .2) (c .if1 .left) in record { fits = omega arith }
-
-add-t28 : tie.Need-add-t28
-add-t28 c = fits-of-lt (fits (c .before .pre .0) (c .before .pre .1) (c .before .pre .2) (c .if1 .left))
+wrapping-sub-u64-requires : tie.Need-wrapping-sub-u64-requires
+wrapping-sub-u64-requires c κs = search needs
 
 returns : tie.Need-returns
-returns c = kept (c .before .pre .0) (c .before .pre .1) (c .before .pre .2) (c .if1 .taken)
-
-returns-2 : tie.Need-returns-2
-returns-2 c = corrected (c .before .pre .0) (c .before .pre .1) (c .before .pre .2) (c .if1 .left)
+returns c =
+    let start = c .before in
+    is-quotient (start .pre .0) (start .pre .1) (start .pre .2) _ (c .wrapping-sub-u64 .ok) (c .wrapping-sub-u64 .ensures)
 
 pub next-digit-spec : {M : Type 1} → statement M
 next-digit-spec =
@@ -139,12 +139,10 @@ next-digit-spec =
     add-lent
     sub-lent
     add-over
-    mul-t21
-    add-t22
-    add-t23
-    sub-t24
-    sub-t25
-    mul-t26
-    add-t28
-    returns
-    returns-2)
+    cast-correction
+    mul-left
+    add-left
+    add-t20
+    mul-wrapping-sub-u64
+    wrapping-sub-u64-requires
+    returns)

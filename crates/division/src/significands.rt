@@ -8,13 +8,34 @@ ghost use Rattle.numbers.specs.Cell.{wide};
 ghost use Rattle.division.specs.Words.{IsSignificand, refinedWord, HasProducts, IsReciprocalWord, IsQuotient};
 use super::seed::entry_for;
 
-// Half a word, 2^32, and half of that.
+// How many numbers half a word holds: 2^32.
 const HALF: u64 = 0x1_0000_0000;
 
-const HALF_OF_HALF: u64 = 0x8000_0000;
+// Of a Newton step: 2^31, the unit of a reciprocal and of the divisor, and 2^33 − 3.
+const RECIPROCAL_UNIT: u64 = 0x8000_0000;
 
-// A digit is 27 bits: 2^27.
+const TWO_LESS: u64 = 0x1_FFFF_FFFD;
+
+// An entry's eight bits become the upper ones of half a word: 2^24.
+const SEED_UNIT: u64 = 0x100_0000;
+
+// A digit has 27 bits, and the product that estimates it 36 more: 2^27 and 2^36.
 const DIGIT: u64 = 0x800_0000;
+
+const ESTIMATE_UNIT: u64 = 0x10_0000_0000;
+
+// What is lent to the lower half of what a digit leaves, 2^61, and the same in upper halves, 2^29.
+const LOAN: u64 = 0x2000_0000_0000_0000;
+
+const UPPER_LOAN: u64 = 0x2000_0000;
+
+// The places of the first bit and of the first digit in two words: bit 17 of the high word; ten bits of
+// the digit are the upper ones of the low word, from bit 54 on.
+const FIRST_BIT: u64 = 0x2_0000;
+
+const LOW_PART: u64 = 0x400;
+
+const LOW_PART_PLACE: u64 = 0x40_0000_0000_0000;
 
 // A quotient digit, and the remainder after it.
 pub(crate) struct Digit {
@@ -22,7 +43,7 @@ pub(crate) struct Digit {
     pub remainder: u64,
 }
 
-// 82 bits of a quotient in two words, and the remainder after them.
+// 82 bits of a quotient, the first of which may be 0, in two words, and the remainder after them.
 pub(crate) struct Digits {
     pub high: u64,
     pub low: u64,
@@ -40,8 +61,8 @@ pub(crate) fn digits_of(p: u64, d: u64) -> Digits
     let second = next_digit(first.remainder, d, reciprocal);
     let third = next_digit(second.remainder, d, reciprocal);
     Digits {
-        high: bit.value * 0x2_0000 + first.value / 0x400,
-        low: first.value % 0x400 * 0x40_0000_0000_0000 + second.value * DIGIT + third.value,
+        high: bit.value * FIRST_BIT + first.value / LOW_PART,
+        low: first.value % LOW_PART * LOW_PART_PLACE + second.value * DIGIT + third.value,
         remainder: third.remainder,
     }
 }
@@ -75,10 +96,10 @@ fn next_digit(remainder: u64, d: u64, reciprocal: u64) -> Digit
     let d0 = d % HALF;
     let r1 = remainder / HALF;
     let r0 = remainder % HALF;
-    let digit = r1 * reciprocal / 0x10_0000_0000;
-    // remainder × 2^27 − digit × d, with 2^61 lent to the lower half so that it is not negative.
-    let low = 0x2000_0000_0000_0000 + r0 * DIGIT - digit * d0;
-    let left1 = r1 * DIGIT + low / HALF - (digit * d1 + 0x2000_0000);
+    let digit = r1 * reciprocal / ESTIMATE_UNIT;
+    // remainder × 2^27 − digit × d, with a loan to the lower half so that it is not negative.
+    let low = LOAN + r0 * DIGIT - digit * d0;
+    let left1 = r1 * DIGIT + low / HALF - (digit * d1 + UPPER_LOAN);
     let left0 = low % HALF;
     // The same less d, with 2^32 lent: `over` is above d1 where d can be taken off. No branch depends on
     // it: the correction is a digit, 0 or 1.
@@ -98,7 +119,7 @@ fn reciprocal_of(d: u64) -> u64
     ensures { λ r. ⌜ IsReciprocalWord d r ⌝ }
 {
     let dr = (d - 1) / HALF + 1;
-    let seed = entry_for(d) as u64 * 0x100_0000;
+    let seed = entry_for(d) as u64 * SEED_UNIT;
     let once = refined(dr, seed);
     refined(dr, once)
 }
@@ -108,6 +129,6 @@ fn refined(dr: u64, x: u64) -> u64
     requires { ⌜ HasProducts dr x ⌝ }
     ensures { λ r. ⌜ r ≡ refinedWord dr x ⌝ }
 {
-    let turned = 0x1_FFFF_FFFD - x * dr / HALF_OF_HALF;
+    let turned = TWO_LESS - x * dr / RECIPROCAL_UNIT;
     x * turned / HALF
 }

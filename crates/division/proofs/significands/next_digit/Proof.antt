@@ -8,7 +8,7 @@ use lib.Dec.{ltb}
 use mir.Facts.{fits-of-lt}
 use mir.Val.{boolByte}
 use Rattle.division.specs.Words.{IsSignificand, IsReciprocalWord, IsQuotient}
-use Rattle.division.proofs.Laws.Words.{product-fits, quotient-small, digit-product-fits, digit-product-more, digit-product-lent, estimate, estimate-small, estimate-below, estimate-above, left-fits, left-is, corrected}
+use Rattle.division.proofs.Laws.Words.{product-fits, digit-product-fits, digit-product-more, digit-product-lent, estimate, estimate-small, estimate-below, estimate-above, left-fits, left-is, corrected}
 use Rattle.division.proofs.significands.next_digit.Statement.{statement}
 use Rattle.division.proofs.significands.next_digit.Tie as tie
 
@@ -51,10 +51,10 @@ module _ {D X R : ℕ} (d : IsSignificand D) (x : IsReciprocalWord D X) (r : R <
   is-quotient : (S : ℕ) → S < 2 ^ 64 → (S + boolByte more * D) % 2 ^ 64 ≡ left1 % 2 ^ 32 * 2 ^ 32 + left0 → IsQuotient (R * 2 ^ 27) D (q + boolByte more) S
   is-quotient S s h = corrected D (R * 2 ^ 27) q left1 left0 left half-word above (d .word) more refl S s h
 
--- a digit, and a word where there is a correction
-digit-fits : (more : Bool) (q : ℕ) → q < 2 ^ 28 → q + boolByte more < 2 ^ 64
-digit-fits false q h = omega arith
-digit-fits true q h = omega arith
+-- the correction is 0 or 1
+correction-small : (more : Bool) → boolByte more ≤ 1
+correction-small false = omega arith
+correction-small true = omega arith
 
 taken-fits : (more : Bool) (D : ℕ) → D < 2 ^ 64 → boolByte more * D < 2 ^ 64
 taken-fits false D h = omega arith
@@ -109,7 +109,7 @@ add-left : tie.Need-add-left
 add-left c = search needs
 
 add-t20 : tie.Need-add-t20
-add-t20 c = fits-of-lt (digit-fits (more (c .pre .0) (c .pre .1) (c .pre .2)) _ (quotient-small _ _ (omega (arith, c .fits .remainder .fits)) (c .pre .1 .word)))
+add-t20 c = record { fits = omega (arith, small (c .pre .0) (c .pre .1) (c .pre .2), correction-small (more (c .pre .0) (c .pre .1) (c .pre .2))) }
 
 mul-wrapping-sub-u64 : tie.Need-mul-wrapping-sub-u64
 mul-wrapping-sub-u64 c = fits-of-lt (taken-fits (more (c .pre .0) (c .pre .1) (c .pre .2)) _ (c .pre .0 .word))

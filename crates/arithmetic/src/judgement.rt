@@ -12,6 +12,7 @@ pub(crate) enum Judgement {
     SecondUnfit, // 4
 }
 
+// Judges two operands and a precision.
 pub(crate) fn judged(a: Number, b: Number, precision: u32) -> Judgement
     ensures { λ r. ⌜ IsJudged a b precision r ⌝ }
 {

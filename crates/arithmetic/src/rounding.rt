@@ -10,6 +10,7 @@ use numbers::rounding::round_cell;
 use numbers::task::Task;
 use numbers::words::Cell;
 
+// Where the last bit of a magnitude stands at exponent 0: 2^−131,196.
 const LAST_BIT: i32 = 131_196;
 
 // A sign, an exponent, a magnitude in two words, and whether something nonzero lies below its last bit.

@@ -19,15 +19,15 @@ pub record IsTaken (p d : Number) (code n : ℕ) : Type 0 where
   pub divisor : isAdmissible d ≡ true
   pub nonzero : isZero d ≡ false
 
--- rows 1 to 5: the row that refuses, whatever the answer would be, or that the pair is divided
-unfoldable pub IsJudged : Number → Number → ℕ → ℕ → Judgement → Type 0
-IsJudged p d code n Divisible = IsTaken p d code n
-IsJudged p d code n UnknownMode = (x : Outcome) → refused 1 ≡ unlessIndivisible p d code n x
-IsJudged p d code n BadPrecision = (x : Outcome) → refused 2 ≡ unlessIndivisible p d code n x
-IsJudged p d code n FirstUnfit = (x : Outcome) → refused 3 ≡ unlessIndivisible p d code n x
-IsJudged p d code n SecondUnfit = (x : Outcome) → refused 4 ≡ unlessIndivisible p d code n x
-IsJudged p d code n ZeroDivisor = (x : Outcome) → refused 5 ≡ unlessIndivisible p d code n x
+-- What a judgement makes of the answer x: the row that refuses, or x itself. `judged` makes of every x what `unlessIndivisible` does.
+unfoldable pub answeredBy : Judgement → Outcome → Outcome
+answeredBy Divisible x = x
+answeredBy UnknownMode x = refused 1
+answeredBy BadPrecision x = refused 2
+answeredBy FirstUnfit x = refused 3
+answeredBy SecondUnfit x = refused 4
+answeredBy ZeroDivisor x = refused 5
 
--- a precision from 1 to 64
+-- a task with a precision from 1 to 64, for private contracts
 abbrev pub IsTask : Task → Type 0
 IsTask task = (1 ≤ precisionOf task) × (precisionOf task ≤ 64)

@@ -1,5 +1,4 @@
--- The terms of private contracts, on words: D and P are significands, w is 2^32. No sentence of document 01 speaks of them, and no
--- promise of a public function cites this file.
+-- The terms of private contracts, on words. No sentence of document 01 speaks of them, and no promise of a public function cites this file.
 use mathlib.Core.Path.{_≡_}
 use Prim.Native.Nat.{ℕ, _+_, _-_, _*_, _/_, _^_, _≤_, _<_}
 use Rattle.numbers.specs.Answer.{Outcome, given, refused}
@@ -9,7 +8,8 @@ pub record IsSignificand (D : ℕ) : Type 0 where
   pub top : 2 ^ 63 ≤ D
   pub word : D < 2 ^ 64
 
--- A Newton step: x / 2^31 times 2 − x × dr / 2^63, rounded down; dr / 2^31 is the divisor. What is taken off 2 is rounded up.
+-- A Newton step: the reciprocal x / 2^31 times 2 − 2^−31 − t, rounded down, where t is x / 2^31 times the divisor dr / 2^32, rounded up to a multiple
+-- of 2^−32. In units of 2^−32, 2 is 2^33, and 3 is taken off for 2^−31 and for rounding up.
 unfoldable pub refinedWord : ℕ → ℕ → ℕ
 refinedWord dr x = x * (2 ^ 33 - 3 - x * dr / 2 ^ 31) / 2 ^ 32
 
@@ -19,7 +19,7 @@ pub record HasProducts (dr x : ℕ) : Type 0 where
   pub complement : x * dr / 2 ^ 31 + 3 ≤ 2 ^ 33
   pub refined : x * (2 ^ 33 - 3 - x * dr / 2 ^ 31) < 2 ^ 64
 
--- x / 2^95 is at most 1 / D, and misses it by less than 16 / 2^32 of it
+-- x / 2^95 is at most 1 / D, and less than 16 / 2^32 of that below it
 pub record IsReciprocalWord (D x : ℕ) : Type 0 where
   pub word : x < 2 ^ 32
   pub under : 2 * x * D ≤ 2 ^ 96

@@ -1,7 +1,8 @@
 // Rows 1 to 5 of document 01's table, which the quotient and the steps ask first.
 ghost use mathlib.Core.Path.{_≡_};
-ghost use Rattle.division.specs.Quotient.{isZero};
-ghost use Rattle.division.specs.Judgement.{IsJudged};
+ghost use Rattle.numbers.specs.Answer.{Outcome};
+ghost use Rattle.division.specs.Quotient.{isZero, unlessIndivisible};
+ghost use Rattle.division.specs.Judgement.{answeredBy};
 use numbers::number::Number;
 use numbers::number::is_admissible;
 use numbers::task::is_precision;
@@ -19,8 +20,9 @@ pub enum Judgement {
     ZeroDivisor, // 5
 }
 
+// Judges a pair, a mode code and a precision.
 pub fn judged(p: Number, d: Number, code: u32, precision: u32) -> Judgement
-    ensures { λ r. ⌜ IsJudged p d code precision r ⌝ }
+    ensures { λ r. ⌜ ((x : Outcome) → answeredBy r x ≡ unlessIndivisible p d code precision x) ⌝ }
 {
     // What rows 2 to 5 ask.
     let imprecise = !is_precision(precision);

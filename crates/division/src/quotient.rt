@@ -19,7 +19,7 @@ use numbers::task::task_of;
 use numbers::words::Cell;
 
 // The bits that `digits_of` gives after the first.
-const DIGIT_BITS: i32 = 81;
+const FRACTION_BITS: i32 = 81;
 
 // p / d, rounded by the mode code and the precision, or the lowest refusal that applies.
 pub fn divide(p: Number, d: Number, code: u32, precision: u32) -> Quotient
@@ -65,7 +65,7 @@ fn divided(p: Number, d: Number, task: Task) -> Answer
             low: digits.low,
             rest: digits.remainder > 0,
         },
-        p_exponent - d_exponent - DIGIT_BITS,
+        p_exponent - d_exponent - FRACTION_BITS,
         task,
     )
 }

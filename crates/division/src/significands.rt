@@ -1,7 +1,6 @@
-// The quotient of two significands, in words: the reciprocal of steps 1 to 6 from the seed table and two
-// Newton steps, then a bit and three digits of 27 bits with their exact remainders. Multiplications,
-// shifts, additions and the table; the boards have no divide instruction, so every divisor in this file
-// is a power of two.
+// The quotient of two significands, in words: a reciprocal made as in steps 1 to 6, by the seed table
+// and two Newton steps, then a bit and three digits of 27 bits with their exact remainders. The boards
+// have no divide instruction, so every divisor in this file is a constant power of two.
 ghost use mathlib.Core.Path.{_≡_};
 ghost use Prim.Native.Nat.{_+_, _*_, _^_, _≤_, _<_};
 ghost use Rattle.numbers.specs.Cell.{wide};
@@ -11,7 +10,8 @@ use super::seed::entry_for;
 // How many numbers half a word holds: 2^32.
 const HALF: u64 = 0x1_0000_0000;
 
-// Of a Newton step: 2^31, the unit of a reciprocal and of the divisor, and 2^33 − 3.
+// Of a Newton step: a reciprocal is in units of 2^−31, and what it is multiplied by in units of 2^−32, so
+// that 2 is 2^33; 3 is taken off for 2^−31 and for rounding a product up.
 const RECIPROCAL_UNIT: u64 = 0x8000_0000;
 
 const TWO_LESS: u64 = 0x1_FFFF_FFFD;
@@ -20,7 +20,7 @@ const TWO_LESS: u64 = 0x1_FFFF_FFFD;
 const SEED_UNIT: u64 = 0x100_0000;
 
 // A digit has 27 bits, and the product that estimates it 36 more: 2^27 and 2^36.
-const DIGIT: u64 = 0x800_0000;
+const DIGIT_UNIT: u64 = 0x800_0000;
 
 const ESTIMATE_UNIT: u64 = 0x10_0000_0000;
 
@@ -62,7 +62,7 @@ pub(crate) fn digits_of(p: u64, d: u64) -> Digits
     let third = next_digit(second.remainder, d, reciprocal);
     Digits {
         high: bit.value * FIRST_BIT + first.value / LOW_PART,
-        low: first.value % LOW_PART * LOW_PART_PLACE + second.value * DIGIT + third.value,
+        low: first.value % LOW_PART * LOW_PART_PLACE + second.value * DIGIT_UNIT + third.value,
         remainder: third.remainder,
     }
 }
@@ -86,8 +86,8 @@ fn first_bit(p: u64, d: u64) -> Digit
 }
 
 // The next 27 bits of a remainder. The upper half of the remainder times the reciprocal gives the digit, or
-// one less; what is left of remainder × 2^27 is held in two halves of a word, and one divisor more is
-// taken off it if it is not below one.
+// one less; what is left of remainder × 2^27 is held in an upper and a lower half, and where it is not
+// below d, d is taken off once more.
 fn next_digit(remainder: u64, d: u64, reciprocal: u64) -> Digit
     requires { ⌜ IsSignificand d × IsReciprocalWord d reciprocal × (remainder < d) ⌝ }
     ensures { λ r. ⌜ IsQuotient (remainder * 2 ^ 27) d (r .value) (r .remainder) ⌝ }
@@ -98,8 +98,8 @@ fn next_digit(remainder: u64, d: u64, reciprocal: u64) -> Digit
     let r0 = remainder % HALF;
     let digit = r1 * reciprocal / ESTIMATE_UNIT;
     // remainder × 2^27 − digit × d, with a loan to the lower half so that it is not negative.
-    let low = LOAN + r0 * DIGIT - digit * d0;
-    let left1 = r1 * DIGIT + low / HALF - (digit * d1 + UPPER_LOAN);
+    let low = LOAN + r0 * DIGIT_UNIT - digit * d0;
+    let left1 = r1 * DIGIT_UNIT + low / HALF - (digit * d1 + UPPER_LOAN);
     let left0 = low % HALF;
     // The same less d, with 2^32 lent: `over` is above d1 where d can be taken off. No branch depends on
     // it: the correction is a digit, 0 or 1.

@@ -59,7 +59,7 @@ fn number_of(kind: u64, word: u64, significand: u64) -> Reading
     Reading::Given(Number::Zero)
 }
 
-// The exponent in a word: from the lowest negative one on, what the word is above 2^32.
+// The exponent in a word: from 2^31 on, the word less 2^32.
 fn exponent_in(word: u64) -> i32
     requires { ⌜ word < 2 ^ 32 ⌝ }
     ensures { λ r. ⌜ r ≡ exponentIn word ⌝ }
@@ -145,7 +145,7 @@ fn word(byte: u8) -> u64
     byte as u64
 }
 
-// Puts a word into eight bytes, as one store.
+// Puts a word into eight bytes. Written out, so that a compiler makes one store of it.
 fn write_word(bytes: &mut [u8], w: u64)
     requires { ⌜ length (now bytes) ≡ 8 ⌝ }
     ensures { λ _. ⌜ now (bytes .exit) ≡ bytesOf 8 w ⌝ }

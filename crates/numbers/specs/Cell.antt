@@ -1,10 +1,11 @@
 -- The rounding of a cell: what stands for a value that is known to two words, and to whether something nonzero lies below them. No sentence of document 01
 -- speaks of cells; an operation that works its exact result out to a cell rounds it here, once.
-use mathlib.Core.Bool.{Bool, not, cond}
-use Prim.Native.Nat.{ℕ, _+_, _*_, _/_, _^_}
+use mathlib.Core.Path.{_≡_}
+use mathlib.Core.Bool.{Bool, true, not, cond}
+use Prim.Native.Nat.{ℕ, _+_, _*_, _/_, _^_, _≤_}
 use lib.Ieee.{up, down}
 use lib.IntN.{ℤ, natAbs}
-use Rattle.numbers.specs.Fraction.{Fraction, signed}
+use Rattle.numbers.specs.Fraction.{Fraction, IsFraction, signed}
 use Rattle.numbers.specs.Rounding.{precisionOf, isPrecision}
 use Rattle.numbers.specs.Answer.{Outcome, refused, rounded}
 use Rattle.numbers.specs.Grid.{InCell}
@@ -22,8 +23,7 @@ LiesIn x F rest e = InCell rest (natAbs (x .numerator) * down e) F (x .denominat
 unfoldable pub oddOf : ℕ → ℕ
 oddOf F = F / 2 * 2 + 1
 
--- What stands for every value of a cell: its lower end, or, with a rest, the odd one of its two ends. `every-value` shows that each value of a cell
--- with two bits more than the task asks, or without a rest, is rounded as this one.
+-- what stands for every value of a cell: its lower end, or, with a rest, the odd one of its two ends
 unfoldable pub endOf : ℕ → Bool → ℕ
 endOf F rest = cond rest (oddOf F) F
 
@@ -34,3 +34,14 @@ binary negative F e = record { numerator = signed negative (F * up e); denominat
 -- What rounding a cell answers. Row 2: "precision not 1 to 64".
 unfoldable pub cellRounding : Bool → ℕ → Bool → ℤ → Task → Outcome
 cellRounding negative F rest e task = cond (not (isPrecision (precisionOf task))) (refused 2) (rounded task (binary negative (endOf F rest) e))
+
+-- x has this sign, or is zero
+unfoldable pub HasSign : Bool → Fraction → Type 0
+HasSign negative x = x .numerator ≡ signed negative (natAbs (x .numerator))
+
+-- The answer is the rounding of every value of the cell, where the cell has no rest, or two bits more than the task asks. In a shorter cell with a rest
+-- the values are rounded differently.
+unfoldable pub RoundsEvery : Outcome → Bool → ℕ → Bool → ℤ → Task → Type 0
+RoundsEvery answer negative F rest e task =
+    isPrecision (precisionOf task) ≡ true → (rest ≡ true → 2 * 2 ^ precisionOf task ≤ F)
+    → (x : Fraction) → IsFraction x → HasSign negative x → LiesIn x F rest e → answer ≡ rounded task x

@@ -1,5 +1,5 @@
 -- The terms that the laws of rounding are stated in: the unit of the last place, cells of a grid, numbers that a grid does not tell apart, and
--- fractions that are rounded alike. Private contracts cite `digit`; the laws stand in proofs/Laws.
+-- fractions that are rounded alike. Cell and private contracts cite them too; the laws stand in proofs/Laws.
 use mathlib.Core.Path.{_≡_}
 use mathlib.Core.Logic.{_↔_}
 use mathlib.Core.Bool.{Bool, true, false}

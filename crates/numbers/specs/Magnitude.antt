@@ -1,4 +1,4 @@
--- The terms of the private contracts of `rounding`. No promise of a public function cites this file.
+-- The terms of private contracts, of `rounding` here and of `arithmetic`. No promise of a public function cites this file.
 use mathlib.Core.Bool.{Bool}
 use Prim.Native.Nat.{ℕ, _-_, _*_, _%_, _^_}
 use lib.Dec.{eqb}

@@ -9,7 +9,7 @@ ghost use Rattle.numbers.specs.Answer.{outcome, checked, rounded};
 ghost use Rattle.numbers.specs.Number.{isWorkingExponent};
 ghost use Rattle.numbers.specs.Rounding.{goesUp, precisionOf};
 ghost use Rattle.numbers.specs.Grid.{digit};
-ghost use Rattle.numbers.specs.Cell.{wide, endOf, cellRounding};
+ghost use Rattle.numbers.specs.Cell.{wide, endOf, cellRounding, RoundsEvery};
 ghost use Rattle.numbers.specs.Magnitude.{raise, scaledValue, roundedTop, claimedTop};
 use super::answer::Answer;
 use super::number::Number;
@@ -37,11 +37,11 @@ const BIAS: i32 = 65_535;
 
 const HIGHEST_BIASED: u64 = 131_071;
 
-// The rounding of a cell, sign × F × 2^exponent with F in two words, once by the task. With a rest, the
-// value lies above that by less than 2^exponent; every value there is rounded to the one answer, where F
-// has two bits more than the task asks.
+// The rounding of a cell, once by the task: F × 2^exponent with F in two words, and a sign. With a rest
+// the magnitude lies above that, by less than 2^exponent. Every value there is rounded to the one answer
+// where there is no rest, or F has two bits more than the task asks.
 pub fn round_cell(negative: bool, cell: Cell, exponent: i32, task: Task) -> Answer
-    ensures { λ r. ⌜ outcome r ≡ cellRounding negative (wide (cell .high) (cell .low)) (cell .rest) exponent task ⌝ }
+    ensures { λ r. ⌜ (outcome r ≡ cellRounding negative (wide (cell .high) (cell .low)) (cell .rest) exponent task) × RoundsEvery (outcome r) negative (wide (cell .high) (cell .low)) (cell .rest) exponent task ⌝ }
 {
     if !is_precision(precision_of(task)) {
         return Answer::BadPrecision;

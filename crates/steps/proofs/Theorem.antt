@@ -1,7 +1,7 @@
 -- The theorem that joins the steps to the quotient (`division`, at the end), from the laws of the steps.
 use mathlib.Core.Path.{_≡_, refl, sym, subst, ap, _∙_}
 use mathlib.Core.Bool.{Bool, true, false, not, cond, false≢true}
-use Prim.Native.Nat.{ℕ, zero, _≤_}
+use Prim.Native.Nat.{ℕ, _≤_}
 use native.Mathlib.Omega.{arith}
 use borrow.Author.Tests.{ltb-false, le-leb}
 use lib.Dec.{ltb, lit≤}

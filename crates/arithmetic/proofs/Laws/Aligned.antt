@@ -80,7 +80,7 @@ module _ (large small : Operand) (h : IsAligned large small) (Y : ℕ) (rest : B
   borrow-fits : digit rest + Y ≤ large .significand * 2 ^ 63
   borrow-fits = room rest (large .significand) (small .significand) Y (2 ^ 63) (2 ^ (large .exponent - small .exponent)) (pow-pos (large .exponent - small .exponent)) (h .larger) cell
 
-  -- where there is a rest, F has more than 64 bits
+  -- where there is a rest, F has two bits more than n, which is at most 64
   fine : (n : ℕ) → n ≤ 64 → (F : ℕ) → large .significand * 2 ^ 63 ≤ F + 1 + Y → rest ≡ true → 2 * 2 ^ n ≤ F
   fine n n1 F l e =
       let c : InCell true (small .significand * 2 ^ 63) Y (2 ^ (large .exponent - small .exponent)) = rw e at cell in

@@ -46,18 +46,17 @@ module _ (exact : Fraction → Fraction → Fraction) (a b : Number) where
         let p = fit-task fit in
         o ∙ is .rounds task (p .0) (p .1) ∙ none-unfit isWorking a b (precisionOf task) (rounded task (exact (value a) (value b))) (rw precision at (fit .2)) (fit .0) (fit .1)
 
-  module _ (code n : ℕ) (known : code ≤ 6) where
-    pub coded-row : (k : ℕ) → ((x : Outcome) → refused k ≡ unlessEitherUnfit isWorking a b n x) → refused k ≡ codedOf exact a b code n
+  module _ (code n : ℕ) (task : Task) (named : task ≡ taskOf code n) where
+    named-precision : n ≡ precisionOf task
+    named-precision = sym (ap precisionOf named ∙ task-precision code n)
+
+    pub fit-coded : AreFit a b n → (1 ≤ precisionOf task) × (precisionOf task ≤ 64)
+    fit-coded fit = fit-task task n named-precision fit
+
+    pub coded-answer : code ≤ 6 → AreFit a b n → (x : Exact) → IsExact x (exact (value a) (value b)) → (out : Outcome) → out ≡ rounded task (exactValue x) → out ≡ codedOf exact a b code n
     unfolding codedOf
-    coded-row k h = task-row (taskOf code n) n (sym (task-precision code n)) k h ∙ known-mode 6 code _ known
+    coded-answer known fit x is out o = task-answer task n named-precision fit x is out o ∙ ap (operationOf exact a b) named ∙ known-mode 6 code _ known
 
-    module _ (task : Task) (named : task ≡ taskOf code n) (fit : AreFit a b n) where
-      named-precision : n ≡ precisionOf task
-      named-precision = sym (ap precisionOf named ∙ task-precision code n)
-
-      pub fit-coded : (1 ≤ precisionOf task) × (precisionOf task ≤ 64)
-      fit-coded = fit-task task n named-precision fit
-
-      pub coded-answer : (x : Exact) → IsExact x (exact (value a) (value b)) → (out : Outcome) → out ≡ rounded task (exactValue x) → out ≡ codedOf exact a b code n
-      unfolding codedOf
-      coded-answer x is out o = task-answer task n named-precision fit x is out o ∙ ap (operationOf exact a b) named ∙ known-mode 6 code _ known
+  pub coded-row : (code n : ℕ) → code ≤ 6 → (k : ℕ) → ((x : Outcome) → refused k ≡ unlessEitherUnfit isWorking a b n x) → refused k ≡ codedOf exact a b code n
+  unfolding codedOf
+  coded-row code n known k h = task-row (taskOf code n) n (sym (task-precision code n)) k h ∙ known-mode 6 code _ known

@@ -1,20 +1,23 @@
 -- The refusals in the table's order: what the test of row 2 says, and what `unlessIndivisible`, rows 1 to 5, is behind each test. Rows 1 to 4
 -- are those of every operation.
-use mathlib.Core.Path.{_≡_, refl, sym, subst, _∙_}
-use mathlib.Core.Bool.{true, false}
+use mathlib.Core.Path.{_≡_, refl, sym, ap, _∙_}
+use mathlib.Core.Bool.{Bool, true, false, not, cond}
 use Prim.Native.Nat.{ℕ, zero, suc, _≤_, _<_}
 use native.Mathlib.Omega.{arith}
-use Rattle.numbers.specs.Answer.{Outcome, refused, rounded}
+use borrow.Author.Tests.{ltb-false}
+use lib.Dec.{ltb}
+use Rattle.numbers.specs.Answer.{Outcome, given, refused, rounded, unlessUnknown, unlessUnfit}
 use Rattle.numbers.specs.Fraction.{value, quotient}
 use Rattle.numbers.specs.Number.{isAdmissible}
 use Rattle.numbers.specs.Rounding.{byMode, taskOf, isPrecision}
 use Rattle.numbers.specs.declared.number.Number.{Number}
+use Rattle.numbers.specs.declared.number.Number.the-variants.{Zero}
 use Rattle.numbers.specs.declared.task.Mode.{Mode}
 use Rattle.numbers.specs.declared.task.Mode.the-variants.{Trunc, Away, Near, Sticky, Up, Down}
 use Rattle.numbers.specs.declared.task.Task.{Task}
 use Rattle.numbers.proofs.Laws.Refusals as rows
 use Rattle.division.specs.Quotient.{isZero, unlessIndivisible, quotientOf}
-use Rattle.division.specs.Judgement.{IsTaken, IsJudged, IsTask}
+use Rattle.division.specs.Judgement.{IsTaken, answeredBy, IsTask}
 use Rattle.division.specs.declared.judgement.Judgement.{Judgement}
 
 -- what the test of row 2 says of a task
@@ -69,6 +72,25 @@ mode-of (suc (suc (suc (suc zero)))) n h = (Up, refl)
 mode-of (suc (suc (suc (suc (suc zero))))) n h = (Down, refl)
 mode-of (suc (suc (suc (suc (suc (suc k)))))) n h = absurd (omega arith)
 
--- the case of a judgement that a match has found
-pub judged-as : (p d : Number) (code n : ℕ) (r b : Judgement) → IsJudged p d code n r → r ≡ b → IsJudged p d code n b
-judged-as p d code n r b h e = subst (IsJudged p d code n) e h
+-- what is judged, at the case that a match has found
+pub judged-as : (p d : Number) (code n : ℕ) (r j : Judgement) → ((x : Outcome) → answeredBy r x ≡ unlessIndivisible p d code n x) → r ≡ j
+    → (x : Outcome) → answeredBy j x ≡ unlessIndivisible p d code n x
+judged-as p d code n r j h e x = ap (λ (k : Judgement). answeredBy k x) (sym e) ∙ h x
+
+-- where nothing is made of any answer, no row applies
+pub divisible-taken : (p d : Number) (code n : ℕ) → ((x : Outcome) → x ≡ unlessIndivisible p d code n x) → IsTaken p d code n
+unfolding unlessIndivisible unlessUnknown unlessUnfit
+divisible-taken p d code n h = go (ltb 5 code) (isPrecision n) (isAdmissible p) (isAdmissible d) (isZero d) refl refl refl refl refl (h (given Zero))
+  where
+    refused-given : (k : ℕ) → given Zero ≡ refused k → ⊥
+    refused-given k e = let z : _≡_ {A = ℕ} 0 1 = cc in omega arith
+
+    go : (high precise first second none : Bool) → ltb 5 code ≡ high → isPrecision n ≡ precise → isAdmissible p ≡ first → isAdmissible d ≡ second → isZero d ≡ none
+        → given Zero ≡ cond high (refused 1) (cond (not precise) (refused 2) (cond (not first) (refused 3) (cond (not second) (refused 4) (cond none (refused 5) (given Zero)))))
+        → IsTaken p d code n
+    go true precise first second none e f g k l m = absurd (refused-given 1 m)
+    go false false first second none e f g k l m = absurd (refused-given 2 m)
+    go false true false second none e f g k l m = absurd (refused-given 3 m)
+    go false true true false none e f g k l m = absurd (refused-given 4 m)
+    go false true true true true e f g k l m = absurd (refused-given 5 m)
+    go false true true true false e f g k l m = record { mode = ltb-false 5 code e; precise = rows.precision-range n f; dividend = g; divisor = k; nonzero = l }

@@ -70,7 +70,7 @@ module _ (D : ℕ) (d : IsSignificand D) where
     unfolding refinedWord
     next-is = ap (λ (n : ℕ). x * n / 2 ^ 32) z-is
 
-    pub next-closer : IsCloser (half * half * half) (half * half) (2 * x * D) (2 * refinedWord DR x * D)
+    next-closer : IsCloser (half * half * half) (half * half) (2 * x * D) (2 * refinedWord DR x * D)
     next-closer =
         closer half D DR (2 * x) y z (2 * refinedWord DR x) near (turned .1)
         (rw next-is (record { below = rw half-is (omega arith); near = rw half-is (omega arith) }))
@@ -78,7 +78,7 @@ module _ (D : ℕ) (d : IsSignificand D) where
     pub next : Near (refinedWord DR x)
     next = next-near half D DR (2 * x) (2 * refinedWord DR x) near next-closer
 
-    pub next-word : refinedWord DR x < 2 ^ 32
+    next-word : refinedWord DR x < 2 ^ 32
     next-word = rw next-is (omega (arith, half-square, refined-word half D DR (2 * x) y z near (turned .1)))
 
   -- the seed, refined twice
@@ -101,7 +101,7 @@ product-fits a b h k = digits-lt-product a b (omega arith) (omega arith)
     digits-lt-product : (a b : ℕ) → a ≤ 2 ^ 32 - 1 → b ≤ 2 ^ 32 - 1 → a * b < 2 ^ 64
     digits-lt-product a b h k = omega (arith, mul-le-mul h k)
 
-pub quotient-small : (a b : ℕ) → a < 2 ^ 32 → b < 2 ^ 32 → a * b / 2 ^ 36 < 2 ^ 28
+quotient-small : (a b : ℕ) → a < 2 ^ 32 → b < 2 ^ 32 → a * b / 2 ^ 36 < 2 ^ 28
 quotient-small a b h k = omega (arith, product-fits a b h k)
 
 module _ (a b e : ℕ) (h : a < 2 ^ 32) (k : b < 2 ^ 32) (l : e < 2 ^ 32) where

@@ -10,11 +10,11 @@ use lib.Ieee.Fits.{down-pos}
 use lib.IntN.{ℤ, pos, negsuc, natAbs}
 use lib.Pow.{pow-pos}
 use Rattle.numbers.specs.Answer.{rounded}
-use Rattle.numbers.specs.Cell.{LiesIn, oddOf, endOf, binary, cellRounding}
+use Rattle.numbers.specs.Cell.{LiesIn, oddOf, endOf, binary, cellRounding, HasSign, RoundsEvery}
 use Rattle.numbers.specs.Fraction.{Fraction, IsFraction, signed}
 use Rattle.numbers.specs.Grid.{InCell}
 use Rattle.numbers.specs.Magnitude.{scaledValue}
-use Rattle.numbers.specs.Rounding.{precisionOf, isPrecision, isNegative}
+use Rattle.numbers.specs.Rounding.{precisionOf, isNegative}
 use Rattle.numbers.specs.declared.task.Task.{Task}
 use Rattle.numbers.proofs.Laws.Cell.{same-cell, one-outcome}
 use Rattle.numbers.proofs.Laws.Fractions.{signed-equal}
@@ -70,9 +70,8 @@ module _ (task : Task) (negative : Bool) (x : Fraction) (F i o : ℕ) (x0 : IsFr
   grid-rounds false fine h = end-rounds h
   grid-rounds true fine h = odd-rounds (fine refl) h
 
--- Every value of a cell without a rest, or with two bits more than the task asks, has the answer of the cell.
-pub every-value : (task : Task) (negative : Bool) (x : Fraction) (F : ℕ) (rest : Bool) (e : ℤ) → IsFraction x → x .numerator ≡ signed negative (natAbs (x .numerator))
-    → isPrecision (precisionOf task) ≡ true → (rest ≡ true → 2 * 2 ^ precisionOf task ≤ F) → LiesIn x F rest e → cellRounding negative F rest e task ≡ rounded task x
-unfolding cellRounding binary scaledValue LiesIn
-every-value task negative x F rest (pos k) x0 sign n fine h = rw n (sym (grid-rounds task negative x F k 0 x0 sign (precision-range (precisionOf task) n .0) rest fine h))
-every-value task negative x F rest (negsuc k) x0 sign n fine h = rw n (sym (grid-rounds task negative x F 0 (suc k) x0 sign (precision-range (precisionOf task) n .0) rest fine h))
+-- the answer of the cell is that of every value of it
+pub every-value : (negative : Bool) (F : ℕ) (rest : Bool) (e : ℤ) (task : Task) → RoundsEvery (cellRounding negative F rest e task) negative F rest e task
+unfolding RoundsEvery HasSign cellRounding binary scaledValue LiesIn
+every-value negative F rest (pos k) task n fine x x0 sign h = rw n (sym (grid-rounds task negative x F k 0 x0 sign (precision-range (precisionOf task) n .0) rest fine h))
+every-value negative F rest (negsuc k) task n fine x x0 sign h = rw n (sym (grid-rounds task negative x F 0 (suc k) x0 sign (precision-range (precisionOf task) n .0) rest fine h))

@@ -1,4 +1,4 @@
--- Step 1: document 01's seed table, how far the seed times the divisor lies from 1, and that the seed is exact in eight bits.
+-- Step 1: the seed is exact in eight bits, and the seed times the divisor lies near 1.
 use mathlib.Core.Path.{_≡_, ap, ap₂, _∙_}
 use mathlib.Core.Bool.{Bool, false}
 use Prim.Native.Nat.{ℕ, _+_, _*_, _^_, _≤_, _<_}

@@ -42,7 +42,7 @@ task-of-requires : tie.Need-task-of-requires
 task-of-requires c κs = search needs
 
 rounded-requires : tie.Need-rounded-requires
-rounded-requires c κs = let n = fit-coded sum _ _ _ _ (c .before .before .before .before .before .if1 .left) _ (c .task-of .ensures) (fit (c .before .before)) in (c .before .exact-sum .ensures .biased, n .0, n .1)
+rounded-requires c κs = let n = fit-coded sum _ _ _ _ _ (c .task-of .ensures) (fit (c .before .before)) in (c .before .exact-sum .ensures .biased, n .0, n .1)
 
 returns-2 : tie.Need-returns-2
 unfolding outcome sumOf IsJudged
@@ -60,7 +60,7 @@ returns-5 : tie.Need-returns-5
 unfolding sumOf
 returns-5 c =
     let known = c .before .before .before in
-    coded-answer sum _ _ _ _ (known .before .before .before .if1 .left) _ (c .before .task-of .ensures) (fit known) _ (c .before .before .exact-sum .ensures) _ (c .rounded .ensures)
+    coded-answer sum _ _ _ _ _ (c .before .task-of .ensures) (known .before .before .before .if1 .left) (fit known) _ (c .before .before .exact-sum .ensures) _ (c .rounded .ensures)
 
 pub add-spec : {M : Type 1} → statement M
 add-spec =

@@ -51,7 +51,7 @@ returns : tie.Need-returns
 unfolding exactValue
 returns c =
     let start = c .before .before in
-    c .round-cell .ensures ∙ answers _ _ _ _ _ _ (start .pre .1) (start .pre .2) (exponent-is _ (start .pre .0))
+    c .round-cell .ensures .0 ∙ answers _ _ _ _ _ _ (start .pre .1) (start .pre .2) (exponent-is _ (start .pre .0))
 
 pub rounded-spec : {M : Type 1} → statement M
 rounded-spec = tie.close (tie.spec cast-exponent sub-exponent round-cell-requires returns)

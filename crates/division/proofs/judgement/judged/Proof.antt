@@ -6,10 +6,9 @@ use borrow.Author.Needs.{needs}
 use borrow.Author.Tests.{not-true, not-false}
 use Rattle.numbers.specs.Number.{isAdmissible}
 use Rattle.numbers.specs.Rounding.{isPrecision}
-use Rattle.numbers.proofs.Laws.Refusals.{precision-range}
 use Rattle.division.specs.Quotient.{isZero}
-use Rattle.division.specs.Judgement.{IsJudged}
-use Rattle.division.proofs.Laws.Divisible.{unknown-mode, bad-precision, first-unfit, second-unfit, zero-divisor}
+use Rattle.division.specs.Judgement.{answeredBy}
+use Rattle.division.proofs.Laws.Divisible.{unknown-mode, bad-precision, first-unfit, second-unfit, zero-divisor, divisible}
 use Rattle.division.proofs.judgement.judged.Statement.{statement}
 use Rattle.division.proofs.judgement.judged.Tie as tie
 
@@ -27,11 +26,11 @@ is-zero-requires c κs = search needs
 
 -- what is asked for rows 2 to 5, and known past each test
 returns : tie.Need-returns
-unfolding IsJudged
+unfolding answeredBy
 returns c = λ x. unknown-mode _ _ _ _ x (omega (arith, c .if1 .taken))
 
 returns-2 : tie.Need-returns-2
-unfolding IsJudged
+unfolding answeredBy
 returns-2 c =
     let asked = c .before .before in
     λ x. bad-precision _ _ _ _ x (c .before .if1 .left) (sym (asked .before .before .before .is-precision .ensures) ∙ not-true _ (c .if2 .taken))
@@ -40,7 +39,7 @@ precise : (c : tie.Else2) → isPrecision (c .before .before .before .before .be
 precise c = let asked = c .before .before in sym (asked .before .before .before .is-precision .ensures) ∙ not-false _ (c .if2 .left)
 
 returns-3 : tie.Need-returns-3
-unfolding IsJudged
+unfolding answeredBy
 returns-3 c =
     let asked = c .before .before .before in
     λ x. first-unfit _ _ _ _ x (c .before .before .if1 .left) (precise (c .before)) (sym (asked .before .before .is-admissible .ensures) ∙ not-true _ (c .if3 .taken))
@@ -49,7 +48,7 @@ first-fit : (c : tie.Else3) → isAdmissible (c .before .before .before .before 
 first-fit c = let asked = c .before .before .before in sym (asked .before .before .is-admissible .ensures) ∙ not-false _ (c .if3 .left)
 
 returns-4 : tie.Need-returns-4
-unfolding IsJudged
+unfolding answeredBy
 returns-4 c =
     let f = c .before in
     let asked = f .before .before .before in
@@ -59,7 +58,7 @@ second-fit : (c : tie.Else4) → isAdmissible (c .before .before .before .before
 second-fit c = let asked = c .before .before .before .before in sym (asked .before .is-admissible2 .ensures) ∙ not-false _ (c .if4 .left)
 
 returns-5 : tie.Need-returns-5
-unfolding IsJudged
+unfolding answeredBy
 returns-5 c =
     let s = c .before in
     let f = s .before in
@@ -70,17 +69,11 @@ nonzero : (c : tie.Else5) → isZero (c .before .before .before .before .before 
 nonzero c = let asked = c .before .before .before .before .before in sym (asked .is-zero .ensures) ∙ c .if5 .left
 
 returns-6 : tie.Need-returns-6
-unfolding IsJudged
-returns-6 c =
+unfolding answeredBy
+returns-6 c = λ x.
     let s = c .before in
     let f = s .before in
-    record {
-      mode = f .before .before .if1 .left;
-      precise = precision-range _ (precise (f .before));
-      dividend = first-fit f;
-      divisor = second-fit s;
-      nonzero = nonzero c;
-    }
+    divisible _ _ _ _ x (f .before .before .if1 .left) (precise (f .before)) (first-fit f) (second-fit s) (nonzero c)
 
 pub judged-spec : {M : Type 1} → statement M
 judged-spec =

@@ -9,10 +9,10 @@ use Rattle.numbers.specs.declared.number.Number.{Number}
 use Rattle.numbers.specs.declared.task.Task.{Task}
 use Rattle.numbers.proofs.Laws.Refusals.{range-precision}
 use Rattle.division.specs.Quotient.{quotientOutcome, quotientOf}
-use Rattle.division.specs.Judgement.{IsTaken, IsJudged, IsTask}
+use Rattle.division.specs.Judgement.{IsTaken, answeredBy, IsTask}
 use Rattle.division.specs.Words.{IsGiven}
 use Rattle.division.specs.declared.judgement.Judgement.the-variants.{Divisible, UnknownMode, BadPrecision, FirstUnfit, SecondUnfit, ZeroDivisor}
-use Rattle.division.proofs.Laws.Divisible.{task-range, quotient-taken, mode-of, judged-as}
+use Rattle.division.proofs.Laws.Divisible.{task-range, quotient-taken, mode-of, judged-as, divisible-taken}
 use Rattle.division.proofs.Laws.Rounds.{quotient-given}
 use Rattle.division.proofs.quotient.divide.Statement.{statement}
 use Rattle.division.proofs.quotient.divide.Tie as tie
@@ -53,8 +53,8 @@ enum-told-6 : tie.Need-enum-told-6
 enum-told-6 c = search needs
 
 divisible : (c : tie.After-enum-told6) → let args = c .before .before .before .args in IsTaken (args .p) (args .d) (args .code) (args .precision)
-unfolding IsJudged
-divisible c = judged-as _ _ _ _ _ Divisible (c .before .before .judged .ensures) (c .enum-told6 .given .1)
+unfolding answeredBy
+divisible c = divisible-taken _ _ _ _ (judged-as _ _ _ _ _ Divisible (c .before .before .judged .ensures) (c .enum-told6 .given .1))
 
 task-of-requires : tie.Need-task-of-requires
 task-of-requires c κs = search needs
@@ -68,23 +68,23 @@ answered-requires : tie.Need-answered-requires
 answered-requires c κs = is-given (divisible (c .before .before)) (c .before .task-of .ensures) (c .divided .ensures)
 
 returns : tie.Need-returns
-unfolding quotientOutcome quotientOf IsJudged
+unfolding quotientOutcome quotientOf answeredBy
 returns c = judged-as _ _ _ _ _ UnknownMode (c .before .before .judged .ensures) (c .enum-told .given .1) _
 
 returns-2 : tie.Need-returns-2
-unfolding quotientOutcome quotientOf IsJudged
+unfolding quotientOutcome quotientOf answeredBy
 returns-2 c = judged-as _ _ _ _ _ BadPrecision (c .before .before .judged .ensures) (c .enum-told2 .given .1) _
 
 returns-3 : tie.Need-returns-3
-unfolding quotientOutcome quotientOf IsJudged
+unfolding quotientOutcome quotientOf answeredBy
 returns-3 c = judged-as _ _ _ _ _ FirstUnfit (c .before .before .judged .ensures) (c .enum-told3 .given .1) _
 
 returns-4 : tie.Need-returns-4
-unfolding quotientOutcome quotientOf IsJudged
+unfolding quotientOutcome quotientOf answeredBy
 returns-4 c = judged-as _ _ _ _ _ SecondUnfit (c .before .before .judged .ensures) (c .enum-told4 .given .1) _
 
 returns-5 : tie.Need-returns-5
-unfolding quotientOutcome quotientOf IsJudged
+unfolding quotientOutcome quotientOf answeredBy
 returns-5 c = judged-as _ _ _ _ _ ZeroDivisor (c .before .before .judged .ensures) (c .enum-told5 .given .1) _
 
 returns-6 : tie.Need-returns-6

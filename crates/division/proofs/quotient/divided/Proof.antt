@@ -80,7 +80,7 @@ returns-3 c =
     let d = c .before .before .before .before .d .given in
     let p-fits : SFits w32 (p .0 .1 .0) = search needs in
     let d-fits : SFits w32 (d .0 .1 .0) = search needs in
-    c .round-cell .ensures
+    c .round-cell .ensures .0
     ∙ quotient-rounds _ _ _ _ _ _ _ _ (p .1) (d .1) (start .pre .0) (start .pre .1) _ _ (c .before .before .digits-of .ensures) _ (start .pre .3) _
     (exponent-is _ _ _ _ _ _ _ _ (p .1) (d .1) (start .pre .0) (start .pre .1) p-fits d-fits)
 

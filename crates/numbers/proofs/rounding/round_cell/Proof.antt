@@ -7,14 +7,14 @@ use borrow.Author.Tests.{not-true, not-false}
 use lib.Ieee.{minus}
 use lib.IntN.{ℤ}
 use mir.Facts.{toZ-ofZ}
-use Rattle.numbers.specs.Answer.{outcome, rounded}
-use Rattle.numbers.specs.Cell.{endOf, cellRounding}
+use Rattle.numbers.specs.Answer.{Outcome, outcome, rounded}
+use Rattle.numbers.specs.Cell.{endOf, cellRounding, RoundsEvery}
 use Rattle.numbers.specs.Magnitude.{raise, scaledValue}
 use Rattle.numbers.specs.Rounding.{precisionOf, isPrecision}
 use Rattle.numbers.specs.declared.answer.Answer.the-variants.{BadPrecision}
 use Rattle.numbers.specs.declared.task.Task.{Task}
 use Rattle.numbers.proofs.Laws.Refusals.{precision-range}
-use Rattle.numbers.proofs.Laws.Round.{scaled-binary}
+use Rattle.numbers.proofs.Laws.Round.{scaled-binary, every-value}
 use Rattle.numbers.proofs.rounding.round_cell.Statement.{statement}
 use Rattle.numbers.proofs.rounding.round_cell.Tie as tie
 
@@ -30,6 +30,11 @@ module _ (negative : Bool) (F : ℕ) (rest : Bool) (e : ℤ) (task : Task) (prec
   unfolding cellRounding
   given h x M is end = rw (sym judged ∙ h, is, end) (scaled-binary task negative (endOf F rest) x raise (range h .0))
 
+-- and so it is of every value
+every : (negative : Bool) (F : ℕ) (rest : Bool) (e : ℤ) (task : Task) (out : Outcome) → out ≡ cellRounding negative F rest e task
+    → (out ≡ cellRounding negative F rest e task) × RoundsEvery out negative F rest e task
+every negative F rest e task out is = (is, rw is (every-value negative F rest e task))
+
 precision-of-requires : tie.Need-precision-of-requires
 precision-of-requires c κs = search needs
 
@@ -41,7 +46,7 @@ judged-precision : (task : Task) (n : ℕ) (precise : Bool) → n ≡ precisionO
 judged-precision task n precise e h = h ∙ ap isPrecision e
 
 returns : tie.Need-returns
-returns c = refused _ _ _ _ _ _ (judged-precision _ _ _ (c .before .before .precision-of .ensures) (c .before .is-precision .ensures)) (not-true _ (c .if1 .taken))
+returns c = every _ _ _ _ _ _ (refused _ _ _ _ _ _ (judged-precision _ _ _ (c .before .before .precision-of .ensures) (c .before .is-precision .ensures)) (not-true _ (c .if1 .taken)))
 
 raised-requires : tie.Need-raised-requires
 raised-requires c κs = search needs
@@ -59,8 +64,9 @@ rounded-requires c κs =
 returns-2 : tie.Need-returns-2
 returns-2 c =
     let asked = c .before .before .before .before in
-    c .rounded .ensures
-    ∙ given _ _ _ _ _ _ (judged-precision _ _ _ (asked .before .precision-of .ensures) (asked .is-precision .ensures)) (not-false _ (c .before .before .before .if1 .left)) _ _ (sym (toZ-ofZ (asked .before .before .fits .exponent)) ∙ c .before .before .raised .ensures .0) (c .before .end-of .ensures)
+    every _ _ _ _ _ _
+    (c .rounded .ensures
+    ∙ given _ _ _ _ _ _ (judged-precision _ _ _ (asked .before .precision-of .ensures) (asked .is-precision .ensures)) (not-false _ (c .before .before .before .if1 .left)) _ _ (sym (toZ-ofZ (asked .before .before .fits .exponent)) ∙ c .before .before .raised .ensures .0) (c .before .end-of .ensures))
 
 pub round-cell-spec : {M : Type 1} → statement M
 round-cell-spec = tie.close (tie.spec precision-of-requires is-precision-requires returns raised-requires end-of-requires rounded-requires returns-2)

@@ -8,12 +8,11 @@ use Rattle.numbers.specs.Answer.{Outcome, refused}
 use Rattle.numbers.specs.declared.number.Number.{Number}
 use Rattle.numbers.proofs.Laws.Refusals.{range-precision}
 use Rattle.division.specs.Quotient.{unlessIndivisible}
-use Rattle.division.specs.Judgement.{IsJudged}
-use Rattle.division.specs.Judgement.{IsTaken}
+use Rattle.division.specs.Judgement.{IsTaken, answeredBy}
 use Rattle.steps.specs.Wanted.{stepOutcome, isStep, stepOf}
 use Rattle.division.specs.declared.judgement.Judgement.the-variants.{Divisible, UnknownMode, BadPrecision, FirstUnfit, SecondUnfit, ZeroDivisor}
 use Rattle.steps.proofs.Laws.Run.{step-range}
-use Rattle.division.proofs.Laws.Divisible.{task-range, taken, judged-as}
+use Rattle.division.proofs.Laws.Divisible.{task-range, taken, judged-as, divisible-taken}
 use Rattle.steps.proofs.wanted.step.Statement.{statement}
 use Rattle.steps.proofs.wanted.step.Tie as tie
 
@@ -47,8 +46,8 @@ enum-told-6 : tie.Need-enum-told-6
 enum-told-6 c = search needs
 
 divisible : (c : tie.After-enum-told6) → let args = c .before .before .before .args in IsTaken (args .p) (args .d) (args .code) (args .precision)
-unfolding IsJudged
-divisible c = judged-as _ _ _ _ _ Divisible (c .before .before .judged .ensures) (c .enum-told6 .given .1)
+unfolding answeredBy
+divisible c = divisible-taken _ _ _ _ (judged-as _ _ _ _ _ Divisible (c .before .before .judged .ensures) (c .enum-told6 .given .1))
 
 is-step-requires : tie.Need-is-step-requires
 is-step-requires c κs = search needs
@@ -71,23 +70,23 @@ answered-requires : tie.Need-answered-requires
 answered-requires c κs = search needs
 
 returns-2 : tie.Need-returns-2
-unfolding stepOutcome stepOf IsJudged
+unfolding stepOutcome stepOf answeredBy
 returns-2 c = judged-as _ _ _ _ _ UnknownMode (c .before .before .judged .ensures) (c .enum-told .given .1) _
 
 returns-3 : tie.Need-returns-3
-unfolding stepOutcome stepOf IsJudged
+unfolding stepOutcome stepOf answeredBy
 returns-3 c = judged-as _ _ _ _ _ BadPrecision (c .before .before .judged .ensures) (c .enum-told2 .given .1) _
 
 returns-4 : tie.Need-returns-4
-unfolding stepOutcome stepOf IsJudged
+unfolding stepOutcome stepOf answeredBy
 returns-4 c = judged-as _ _ _ _ _ FirstUnfit (c .before .before .judged .ensures) (c .enum-told3 .given .1) _
 
 returns-5 : tie.Need-returns-5
-unfolding stepOutcome stepOf IsJudged
+unfolding stepOutcome stepOf answeredBy
 returns-5 c = judged-as _ _ _ _ _ SecondUnfit (c .before .before .judged .ensures) (c .enum-told4 .given .1) _
 
 returns-6 : tie.Need-returns-6
-unfolding stepOutcome stepOf IsJudged
+unfolding stepOutcome stepOf answeredBy
 returns-6 c = judged-as _ _ _ _ _ ZeroDivisor (c .before .before .judged .ensures) (c .enum-told5 .given .1) _
 
 returns-7 : tie.Need-returns-7

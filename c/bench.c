@@ -50,14 +50,16 @@ static void by_mpfr(mpfr_entry *call, mpfr_rnd_t mode) {
 static void divide_library(void) { library(navehuro_divide, NAVEHURO_NEAR); }
 static void divide_library_up(void) { library(navehuro_divide, NAVEHURO_UP); }
 static void add_library(void) { library(navehuro_add, NAVEHURO_NEAR); }
+static void subtract_library(void) { library(navehuro_subtract, NAVEHURO_NEAR); }
 static void multiply_library(void) { library(navehuro_multiply, NAVEHURO_NEAR); }
 
 static void divide_mpfr(void) { by_mpfr(mpfr_div, MPFR_RNDN); }
 static void divide_mpfr_up(void) { by_mpfr(mpfr_div, MPFR_RNDU); }
 static void add_mpfr(void) { by_mpfr(mpfr_add, MPFR_RNDN); }
+static void subtract_mpfr(void) { by_mpfr(mpfr_sub, MPFR_RNDN); }
 static void multiply_mpfr(void) { by_mpfr(mpfr_mul, MPFR_RNDN); }
 
-/* The operators on binary128 are calls of __divtf3, __addtf3 and __multf3. */
+/* The operators on binary128 are calls of __divtf3, __addtf3, __subtf3 and __multf3. */
 static void divide_quad(void) {
     for (int i = 0; i < PAIRS; i++) {
         quad_result[i] = first_quad[i] / second_quad[i];
@@ -68,6 +70,13 @@ static void divide_quad(void) {
 static void add_quad(void) {
     for (int i = 0; i < PAIRS; i++) {
         quad_result[i] = first_quad[i] + second_quad[i];
+        USED(&quad_result[i]);
+    }
+}
+
+static void subtract_quad(void) {
+    for (int i = 0; i < PAIRS; i++) {
+        quad_result[i] = first_quad[i] - second_quad[i];
         USED(&quad_result[i]);
     }
 }
@@ -89,6 +98,7 @@ static const struct {
     {"divide, near", {divide_library, divide_quad, divide_mpfr}},
     {"divide, up", {divide_library_up, NULL, divide_mpfr_up}},
     {"add, near", {add_library, add_quad, add_mpfr}},
+    {"subtract, near", {subtract_library, subtract_quad, subtract_mpfr}},
     {"multiply, near", {multiply_library, multiply_quad, multiply_mpfr}},
 };
 enum { LINES = sizeof lines / sizeof lines[0] };

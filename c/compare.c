@@ -1,8 +1,10 @@
 /*
  * Holds the four functions of navehuro.h to MPFR and to exact integers of GMP, on random inputs and on
  * edges: the answer, the sixteen bytes of the result, and every byte around the three buffers, of the
- * operands and, after a refusal, of the result. Prints how many inputs each operation had by mode and by
- * answer, each of the first differences, and last how many inputs and differences there were.
+ * operands and, after a refusal, of the result. Many buffers lie at a page that cannot be read, every
+ * one of a wrong length right before it; some operands are the same or overlap. Prints how many inputs
+ * each operation had by mode and by answer, each of the first differences, how the operands lay, and
+ * last how many inputs and differences there were.
  */
 #include "compare.h"
 
@@ -13,10 +15,9 @@
 enum {
     FIT_INPUTS = 2500,     /* for each operation, mode and precision */
     FAULTY_INPUTS = 50000, /* for each operation */
-    GUARD_BYTES = 32,      /* at least so many before and behind a buffer */
-    ALIGNMENTS = 16,
-    ROOM = 2 * GUARD_BYTES + ALIGNMENTS + MOST_BYTES,
-    SHOWN = 20, /* differences printed in full */
+    LEAST_INPUTS = 2000000,
+    SHARED = 16, /* one pair of operands in so many is the same or overlaps */
+    SHOWN = 20,  /* differences printed in full */
     OTHER_MODE = NAVEHURO_EXACT + 1,
     MODES
 };
@@ -44,22 +45,8 @@ static const uint32_t codes[] = {0, 1, 2, 3, 4, 5, 7, 8, 9, 64};
 enum { CODES = sizeof codes / sizeof codes[0] };
 
 static unsigned long mode_counts[OPERATIONS][MODES], code_counts[OPERATIONS][CODES];
+static unsigned long place_counts[PLACES], same, overlapping;
 static unsigned long inputs, differences;
-
-/* A buffer among guard bytes, and what all these bytes must be after the call. */
-typedef struct {
-    uint8_t bytes[ROOM], wanted[ROOM];
-    size_t start;
-} lent;
-
-static void lend(lent *to, const uint8_t *content, size_t length) {
-    for (size_t i = 0; i < ROOM; i++) to->bytes[i] = (uint8_t)random_word();
-    to->start = GUARD_BYTES + (size_t)below(ALIGNMENTS);
-    if (content) memcpy(to->bytes + to->start, content, length);
-    memcpy(to->wanted, to->bytes, ROOM);
-}
-
-static int is_as_wanted(const lent *x) { return memcmp(x->bytes, x->wanted, ROOM) == 0; }
 
 static void print_bytes(const char *name, const uint8_t *bytes, size_t length) {
     printf("  %s ", name);
@@ -67,15 +54,22 @@ static void print_bytes(const char *name, const uint8_t *bytes, size_t length) {
     printf("\n");
 }
 
+static void print_operand(const char *name, const uint8_t *bytes, size_t length) {
+    printf("  length of %s: %zu\n", name, length);
+    print_bytes(name, bytes, length < NAVEHURO_NUMBER_BYTES ? length : NAVEHURO_NUMBER_BYTES);
+}
+
 static void print_difference(const input *in, const answer *wanted, uint32_t found, const lent *a,
-                             const lent *b, const lent *result) {
+                             const lent *b, lent *result) {
     printf("difference: %s, mode %" PRIu32 ", precision %" PRIu32 "\n",
            operation_names[in->operation], in->mode, in->precision);
-    print_bytes("a", in->a, in->a_length);
-    print_bytes("b", in->b, in->b_length);
+    print_operand("a", in->a, in->a_length);
+    print_operand("b", in->b, in->b_length);
+    printf("  length of the result: %zu\n", in->result_length);
+    if (a->seen == b->seen) printf("  b begins %td bytes behind a\n", b->start - a->start);
     printf("  answer wanted %" PRIu32 ", found %" PRIu32 "\n", wanted->code, found);
-    print_bytes("result wanted", result->wanted + result->start, in->result_length);
-    print_bytes("result found ", result->bytes + result->start, in->result_length);
+    print_bytes("result wanted", wanted_at(result), result->length);
+    print_bytes("result found ", result->start, result->length);
     if (!is_as_wanted(a)) printf("  a or bytes around it changed\n");
     if (!is_as_wanted(b)) printf("  b or bytes around it changed\n");
     if (!is_as_wanted(result)) printf("  the result or bytes around it are not as wanted\n");
@@ -87,18 +81,56 @@ static void count(const input *in, uint32_t code) {
     for (size_t i = 0; i < CODES; i++) code_counts[in->operation][i] += codes[i] == code;
 }
 
-static void compare(const input *in) {
-    answer wanted = judge(in);
+/* Where a buffer of this length lies: before a wall, if the length is wrong. */
+static place place_for(size_t length) {
+    return length == NAVEHURO_NUMBER_BYTES ? (place)below(PLACES) : BEFORE_WALL;
+}
+
+static void lend_operand(lent *to, room in, const uint8_t *bytes, size_t length) {
+    place at = place_for(length);
+    lend(to, in, at, length);
+    lay(to, bytes, NAVEHURO_NUMBER_BYTES);
+    place_counts[at]++;
+}
+
+/* Lends a and b the same bytes, or some of the same; the input then has what lies there. */
+static void lend_shared(input *in, lent *a, lent *b) {
+    size_t distance = below(2) ? 0 : 1 + (size_t)below(NAVEHURO_NUMBER_BYTES - 1);
+    int a_leads = (int)below(2);
+    lent *leading = a_leads ? a : b, *other = a_leads ? b : a;
+    uint8_t *leading_bytes = a_leads ? in->a : in->b, *other_bytes = a_leads ? in->b : in->a;
+    uint8_t both[2 * NAVEHURO_NUMBER_BYTES];
+    memcpy(both + distance, other_bytes, NAVEHURO_NUMBER_BYTES);
+    memcpy(both, leading_bytes, NAVEHURO_NUMBER_BYTES);
+    memcpy(other_bytes, both + distance, NAVEHURO_NUMBER_BYTES);
+    lend(leading, FIRST_ROOM, (place)below(PLACES), distance + NAVEHURO_NUMBER_BYTES);
+    lay(leading, both, distance + NAVEHURO_NUMBER_BYTES);
+    *other = *leading;
+    other->start += distance;
+    *(distance ? &overlapping : &same) += 1;
+}
+
+static void lend_operands(input *in, lent *a, lent *b) {
+    if (in->a_length == NAVEHURO_NUMBER_BYTES && in->b_length == NAVEHURO_NUMBER_BYTES &&
+        below(SHARED) == 0) {
+        lend_shared(in, a, b);
+    } else {
+        lend_operand(a, FIRST_ROOM, in->a, in->a_length);
+        lend_operand(b, SECOND_ROOM, in->b, in->b_length);
+    }
+}
+
+static void compare(input *in) {
     lent a, b, result;
+    answer wanted;
     uint32_t found;
-    lend(&a, in->a, in->a_length);
-    lend(&b, in->b, in->b_length);
-    lend(&result, NULL, in->result_length);
+    lend_operands(in, &a, &b);
+    lend(&result, RESULT_ROOM, place_for(in->result_length), in->result_length);
+    wanted = judge(in);
     if (wanted.code == NAVEHURO_WRITTEN)
-        memcpy(result.wanted + result.start, wanted.result, sizeof wanted.result);
-    found = entries[in->operation](a.bytes + a.start, in->a_length, b.bytes + b.start,
-                                   in->b_length, in->mode, in->precision,
-                                   result.bytes + result.start, in->result_length);
+        memcpy(wanted_at(&result), wanted.result, sizeof wanted.result);
+    found = entries[in->operation](a.start, in->a_length, b.start, in->b_length, in->mode,
+                                   in->precision, result.start, in->result_length);
     count(in, wanted.code);
     if (found == wanted.code && is_as_wanted(&a) && is_as_wanted(&b) && is_as_wanted(&result))
         return;
@@ -133,18 +165,45 @@ static void print_counts(void) {
         printf("\n%-10s", operation_names[op]);
         for (size_t i = 0; i < CODES; i++) printf("%8lu", code_counts[op][i]);
     }
-    printf("\n\n");
+    printf("\n\noperands before a wall %lu, behind one %lu, amid %lu; pairs that are the same %lu, "
+           "overlap %lu\n\n",
+           place_counts[BEFORE_WALL], place_counts[BEHIND_WALL], place_counts[AMID], same,
+           overlapping);
 }
 
+static int is_possible(operation op, uint32_t code) {
+    if (op == DIVIDE) return code != NAVEHURO_EXPONENT_OUTSIDE && code != NAVEHURO_TOO_MANY_BITS;
+    return code != NAVEHURO_ZERO_DIVISOR;
+}
+
+/* Whether there were enough inputs, and some for each answer that an operation can give. */
+static int is_enough(void) {
+    int enough = inputs >= LEAST_INPUTS;
+    if (!enough) printf("fewer than %d inputs\n", LEAST_INPUTS);
+    for (operation op = ADD; op < OPERATIONS; op++) {
+        for (size_t i = 0; i < CODES; i++) {
+            if (code_counts[op][i] > 0 || !is_possible(op, codes[i])) continue;
+            printf("no input of %s has the answer %" PRIu32 "\n", operation_names[op], codes[i]);
+            enough = 0;
+        }
+    }
+    return enough;
+}
+
+
 int main(void) {
+    int enough;
+    setvbuf(stdout, NULL, _IOLBF, BUFSIZ);
     printf("seed %" PRIu64 "\n\n", SEED);
     start_random(SEED);
+    start_buffers();
     start_judge();
     start_inputs();
     for (operation op = ADD; op < OPERATIONS; op++) compare_operation(op);
     end_inputs();
     end_judge();
     print_counts();
+    enough = is_enough();
     printf("%lu inputs, %lu differences\n", inputs, differences);
-    return differences > 0;
+    return differences > 0 || !enough;
 }

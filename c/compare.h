@@ -13,14 +13,17 @@ typedef struct {
     uint64_t significand;
 } number;
 
-/* Room for an operand that is longer than a number. */
-enum { MOST_BYTES = 40 };
+/* Exit status where the comparison could not be made. */
+enum { NOT_COMPARED = 2 };
 
-/* A call: the operation and all that it is given. */
+/* The longest buffer: the lower 32 bits of its length are those of a right one. */
+#define MOST_LENGTH (NAVEHURO_NUMBER_BYTES + ((size_t)1 << 32))
+
+/* A call: the operation and all that it is given. Any bytes may follow those of a and b. */
 typedef struct {
     operation operation;
     uint32_t mode, precision;
-    uint8_t a[MOST_BYTES], b[MOST_BYTES];
+    uint8_t a[NAVEHURO_NUMBER_BYTES], b[NAVEHURO_NUMBER_BYTES];
     size_t a_length, b_length, result_length;
 } input;
 
@@ -53,5 +56,32 @@ void start_inputs(void);
 input fit_input(operation op, uint32_t mode, uint32_t precision);
 input faulty_input(operation op);
 void end_inputs(void);
+
+enum {
+    GUARD_BYTES = 32, /* looked at before and behind a buffer, as far as there is no wall */
+    SEEN_BYTES = 272, /* looked at of a longer buffer */
+    ALIGNMENTS = 16
+};
+
+/* A buffer, and what its bytes and those around it must be after the call. */
+typedef struct {
+    uint8_t *start, *seen;
+    size_t length, before, seen_length; /* `before`: bytes seen before the buffer */
+    uint8_t wanted[GUARD_BYTES + SEEN_BYTES + GUARD_BYTES];
+} lent;
+
+/* The rooms for buffers, and where in its room a buffer lies. */
+typedef enum { FIRST_ROOM, SECOND_ROOM, RESULT_ROOM, ROOMS } room;
+typedef enum { BEFORE_WALL, BEHIND_WALL, AMID, PLACES } place;
+
+/*
+ * `lend` fills with random bytes; `lay` puts bytes at the start, as many as there is length for;
+ * `wanted_at` is where what is wanted of the buffer begins.
+ */
+void start_buffers(void);
+void lend(lent *to, room in, place at, size_t length);
+void lay(lent *to, const uint8_t *bytes, size_t count);
+uint8_t *wanted_at(lent *x);
+int is_as_wanted(const lent *x);
 
 #endif

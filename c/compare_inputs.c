@@ -9,10 +9,11 @@
 
 enum {
     WORD_BITS = 64,
-    FAR = 130,  /* exponents further apart than this add nothing new */
-    NEXT = 3,   /* how far from an edge a neighbour of it may lie */
-    TRIES = 8,  /* for a quotient of the wanted length */
-    ZEROS = 50, /* one operand in so many is zero */
+    FAR = 130,       /* exponents further apart than this add nothing new */
+    NEXT = 3,        /* how far from an edge a neighbour of it may lie */
+    TRIES = 8,       /* for a quotient of the wanted length */
+    ZEROS = 50,      /* one operand in so many is zero */
+    MOST_SHORT = 40, /* wrong lengths up to this are drawn from all */
     MOST_FAULTS = 3
 };
 
@@ -54,13 +55,14 @@ static uint64_t normalized(uint64_t word) {
 
 static uint64_t any_significand(uint32_t precision) {
     uint64_t half = precision < WORD_BITS ? TOP_BIT >> precision : 0;
+    uint64_t off = (uint64_t)one_off();
     switch (below(8)) {
     case 0: return TOP_BIT;
     case 1: return UINT64_MAX;
     case 2: return TOP_BIT + below(NEXT);
     case 3: return UINT64_MAX - below(NEXT);
     case 4: return first_bits(1 + (uint32_t)below(WORD_BITS));
-    case 5: return TOP_BIT | ((first_bits(precision) | half) + (uint64_t)one_off());
+    case 5: return TOP_BIT | ((first_bits(precision) | half) + off);
     default: return first_bits(WORD_BITS);
     }
 }
@@ -108,8 +110,9 @@ static void any_pair(const input *in, number *a, number *b) {
 
 /* Operands that are the same or neighbours, so that a sum cancels and a quotient is next to 1. */
 static void alike_pair(const input *in, number *a, number *b) {
+    uint64_t off = (uint64_t)one_off();
     any_pair(in, a, b);
-    b->significand = TOP_BIT | (a->significand + (uint64_t)one_off() * below(NEXT));
+    b->significand = TOP_BIT | (a->significand + off * below(NEXT));
     b->exponent = a->exponent;
     if (below(4) == 0) {
         a->significand = TOP_BIT;
@@ -151,11 +154,21 @@ static void close_sum(const input *in, number *a, number *b) {
         into_range(in->operation, a->exponent - (int32_t)in->precision - (off < 0 ? 1 : 0));
 }
 
-/* A product whose lower 64 bits are a power of two, or next to it. */
-static void close_product(number *a, number *b) {
-    uint64_t lower = (TOP_BIT >> below(NEXT)) + (uint64_t)one_off();
-    a->significand = first_bits(WORD_BITS) | 1;
-    b->significand = normalized(lower * inverse(a->significand));
+/*
+ * A product of two whole numbers of at most `precision` bits. Its lower `precision` bits are a half, a
+ * quarter or an eighth of 2^precision, or next to it, so that many are ties or as close to one as can be.
+ */
+static void close_product(const input *in, number *a, number *b) {
+    uint64_t mask = UINT64_MAX >> (WORD_BITS - in->precision);
+    uint64_t odd = first_bits(in->precision) >> (WORD_BITS - in->precision) | 1;
+    uint64_t factor = 0;
+    while (factor == 0) {
+        uint64_t off = (uint64_t)one_off();
+        uint64_t lower = ((mask / 2 + 1) >> below(NEXT)) + off;
+        factor = lower * inverse(odd) & mask;
+    }
+    a->significand = normalized(odd);
+    b->significand = normalized(factor);
 }
 
 /* A quotient that differs from one of `bits` bits by 1 / b of the last of these. */
@@ -180,7 +193,7 @@ static void close_quotient(number *a, number *b, uint32_t bits) {
 static void close_pair(const input *in, number *a, number *b) {
     any_exponents(in->operation, a, b);
     switch (in->operation) {
-    case MULTIPLY: close_product(a, b); break;
+    case MULTIPLY: close_product(in, a, b); break;
     case DIVIDE: close_quotient(a, b, in->precision + (uint32_t)below(2)); break;
     default: close_sum(in, a, b); break;
     }
@@ -225,7 +238,8 @@ static int32_t outside(operation op) {
 }
 
 static void make_unfit(operation op, uint8_t *bytes) {
-    number x = {below(2) ? NAVEHURO_POSITIVE : NAVEHURO_NEGATIVE, 0, first_bits(WORD_BITS)};
+    number x = {NAVEHURO_POSITIVE, 0, first_bits(WORD_BITS)};
+    if (below(2)) x.kind = NAVEHURO_NEGATIVE;
     if (below(2)) {
         x.exponent = outside(op);
     } else {
@@ -235,48 +249,61 @@ static void make_unfit(operation op, uint8_t *bytes) {
 }
 
 static void make_no_number(uint8_t *bytes) {
+    uint64_t at;
     switch (below(3)) {
     case 0: bytes[12] = (uint8_t)(NAVEHURO_NEGATIVE + 1 + below(UINT8_MAX - NAVEHURO_NEGATIVE)); break;
-    case 1: bytes[13 + below(3)] = (uint8_t)(1 + below(UINT8_MAX)); break;
+    case 1:
+        at = 13 + below(3);
+        bytes[at] = (uint8_t)(1 + below(UINT8_MAX));
+        break;
     default:
+        at = below(12);
         memset(bytes, 0, NAVEHURO_NUMBER_BYTES);
-        bytes[below(12)] = (uint8_t)(1 << below(8));
+        bytes[at] = (uint8_t)(1 << below(8));
         break;
     }
 }
 
+/* One bit above the lowest byte of a code. */
+static uint32_t high_bit(void) { return (uint32_t)1 << (8 + below(24)); }
+
 static uint32_t bad_mode(operation op) {
+    uint32_t high = high_bit();
     switch (below(3)) {
     case 0: return last_mode(op) + 1;
     case 1: return last_mode(op) + 1 + (uint32_t)below(UINT32_MAX - last_mode(op));
-    default: return (uint32_t)(1 << 8) << below(24) | (uint32_t)below(last_mode(op) + 1);
+    default: return high | (uint32_t)below(last_mode(op) + 1);
     }
 }
 
 static uint32_t bad_precision(void) {
+    uint32_t high = high_bit();
     switch (below(4)) {
     case 0: return 0;
     case 1: return NAVEHURO_MAX_PRECISION + 1;
     case 2: return NAVEHURO_MAX_PRECISION + 1 +
                    (uint32_t)below(UINT32_MAX - NAVEHURO_MAX_PRECISION);
-    default: return (uint32_t)(1 << 8) << below(24) | (uint32_t)(1 + below(NAVEHURO_MAX_PRECISION));
+    default: return high | (uint32_t)(1 + below(NAVEHURO_MAX_PRECISION));
     }
 }
 
 static size_t wrong_length(void) {
-    switch (below(3)) {
+    size_t length;
+    switch (below(4)) {
     case 0: return NAVEHURO_NUMBER_BYTES - 1;
     case 1: return NAVEHURO_NUMBER_BYTES + 1;
-    default: {
-        size_t length = (size_t)below(MOST_BYTES);
+    case 2: /* right but for one bit above the lower 8, 16 or 32 */
+        return NAVEHURO_NUMBER_BYTES + ((size_t)1 << (8 << below(3)));
+    default:
+        length = (size_t)below(MOST_SHORT);
         return length < NAVEHURO_NUMBER_BYTES ? length : length + 1;
-    }
     }
 }
 
 input faulty_input(operation op) {
-    input in = fit_input(op, (uint32_t)below(last_mode(op) + 1),
-                         1 + (uint32_t)below(NAVEHURO_MAX_PRECISION));
+    uint32_t mode = (uint32_t)below(last_mode(op) + 1);
+    uint32_t precision = 1 + (uint32_t)below(NAVEHURO_MAX_PRECISION);
+    input in = fit_input(op, mode, precision);
     int faults = between(1, MOST_FAULTS);
     for (int i = 0; i < faults; i++) {
         switch (below(10)) {

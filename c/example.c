@@ -1,6 +1,7 @@
 /* Divides 1 by 3 downward and upward, and by zero, which is refused. From the repository's root:
  *
- *     rt staticlib export && gcc -std=c99 -o example c/example.c target/staticlib/libexport.a
+ *     rt staticlib export
+ *     gcc -std=c99 -Wall -Wextra -Werror -o target/example c/example.c target/staticlib/libexport.a
  */
 #include <inttypes.h>
 #include <stdio.h>
@@ -33,7 +34,7 @@ static uint32_t divide(const number a, const number b, uint32_t mode, number res
 }
 
 int main(void) {
-    number one, three, zero, quotient;
+    number one, three, zero, quotient = {0};
     put_integer(one, 1);
     put_integer(three, 3);
     put_integer(zero, 0);

@@ -11,10 +11,10 @@
  *     byte  12        kind: 0 zero, 1 positive, 2 negative
  *     bytes 13 to 15  zero
  *
- * Zero is sixteen zero bytes. Any other number is S * 2^(e - 63), or minus that; the top bit of S is
- * set. A result is always so. Sixteen bytes with another kind, with a byte 13 to 15 that is not
- * zero, or of kind zero with any byte that is not zero, are no number. A number whose top bit of S is
- * clear, or whose exponent is outside the range of the operation, is unfit and refused.
+ * Zero is sixteen zero bytes. Kind 1 or 2: ±S * 2^(e - 63). It is fit if the top bit of S is set and e
+ * is in the operation's range; an unfit one is refused 3 or 4, and is not "no number" (64). A
+ * result is always fit. Sixteen bytes with another kind, with a byte 13 to 15 that is not zero, or of
+ * kind zero with any byte that is not zero, are no number.
  */
 #ifndef NAVEHURO_H
 #define NAVEHURO_H
@@ -39,7 +39,7 @@ enum {
     NAVEHURO_NEGATIVE = 2
 };
 
-/* Exponents: the working ones are those of results, and of operands but for division. */
+/* Exponents: the working ones are those of results, and of the operands of add, subtract and multiply. */
 enum {
     NAVEHURO_WORKING_MIN = -65535,
     NAVEHURO_WORKING_MAX = 65536,
@@ -47,7 +47,7 @@ enum {
     NAVEHURO_ADMISSIBLE_MAX = 16384
 };
 
-/* Modes: how the value, scaled so that its last bit is the unit, becomes a whole number. */
+/* Modes: how the value, scaled so that the last of `precision` bits counts 1, becomes a whole number. */
 enum {
     NAVEHURO_TRUNC = 0,  /* toward zero */
     NAVEHURO_AWAY = 1,   /* away from zero */
@@ -55,7 +55,8 @@ enum {
     NAVEHURO_STICKY = 3, /* toward zero, and made odd if there was a fraction */
     NAVEHURO_UP = 4,     /* toward plus infinity */
     NAVEHURO_DOWN = 5,   /* toward minus infinity */
-    NAVEHURO_EXACT = 6   /* no rounding: the value must have no more bits; not for division */
+    NAVEHURO_EXACT = 6   /* no rounding: the value must have no more than `precision` bits;
+                            not for division */
 };
 
 /*

@@ -10,22 +10,22 @@ from pathlib import Path
 ROOT = Path(__file__).resolve().parent.parent
 SOURCES = ROOT / "c"
 COMPILER = "gcc"
-# Exit status where something is missing or does not build.
-UNBUILT = 2
+# Exit status where something is missing, does not build or fails.
+FAILED = 2
 # A header, and the Debian package that has it.
-HEADERS = {"gmp.h": "libgmp-dev", "mpfr.h": "libmpfr-dev"}
+HEADERS = {"stdio.h": "libc6-dev", "gmp.h": "libgmp-dev", "mpfr.h": "libmpfr-dev"}
 
 
 def leave(reason: str) -> None:
     """Ends the script: nothing was compared or measured."""
     print(reason, file=sys.stderr)
-    sys.exit(UNBUILT)
+    sys.exit(FAILED)
 
 
 def need_compiler() -> None:
     """Leaves, with the package to install, unless the compiler and the headers are here."""
     if not shutil.which(COMPILER):
-        leave(f"{COMPILER} is missing: install the Debian package gcc (and libc6-dev)")
+        leave(f"{COMPILER} is missing: install the Debian package gcc")
     for header, package in HEADERS.items():
         found = subprocess.run([COMPILER, "-E", "-x", "c", "-"], input=f"#include <{header}>\n",
                                text=True, capture_output=True)
@@ -33,10 +33,23 @@ def need_compiler() -> None:
             leave(f"{header} is missing: install the Debian package {package}")
 
 
+def ran(words: list, good: tuple[int, ...] = (0,), **options) -> subprocess.CompletedProcess:
+    """Runs a program to its end; leaves unless its exit status is a good one."""
+    try:
+        run = subprocess.run(words, **options)
+    except OSError as error:
+        leave(f"{Path(words[0]).name} does not run: {error.strerror}")
+    if run.returncode not in good:
+        leave(f"{Path(words[0]).name} failed: "
+              + (f"signal {-run.returncode}" if run.returncode < 0
+                 else f"exit status {run.returncode}"))
+    return run
+
+
 def rt(*words: str) -> None:
     """Runs rt at the root of the repository; what it prints goes to standard error."""
     if not shutil.which("rt"):
-        leave("rt is missing: install the Rattle kit, or name what it has built (--help)")
+        leave("rt is missing: install the Rattle toolchain, or name what it has built (--help)")
     if subprocess.run(["rt", *words], cwd=ROOT, stdout=sys.stderr).returncode:
         leave(f"rt {' '.join(words)} failed")
 

@@ -132,7 +132,7 @@ fn exact_difference(a: Number, b: Number) -> Exact
     requires { ⌜ (isWorking a ≡ true) × (isWorking b ≡ true) ⌝ }
     ensures { λ r. ⌜ IsExact r (difference (value a) (value b)) ⌝ }
 {
-    exact_sum(a, negated(b))
+    sum_of(operand_of(a), operand_of(negated(b)))
 }
 
 fn exact_product(a: Number, b: Number) -> Exact

@@ -3,17 +3,21 @@ use mathlib.Core.Path.{_≡_, sym, subst, ap, _∙_}
 use mathlib.Core.Bool.{true}
 use Prim.Native.Nat.{ℕ, _≤_}
 use Rattle.numbers.specs.Answer.{Outcome, refused, rounded, unlessEitherUnfit}
-use Rattle.numbers.specs.Fraction.{Fraction, IsFraction, Equal, value}
+use Rattle.numbers.specs.Fraction.{Fraction, IsFraction, Equal, value, sum}
 use Rattle.numbers.specs.Number.{isWorking}
 use Rattle.numbers.specs.Rounding.{taskOf, precisionOf, isPrecision}
 use Rattle.numbers.specs.declared.number.Number.{Number}
 use Rattle.numbers.specs.declared.task.Task.{Task}
+use Rattle.numbers.proofs.Laws.Fractions.{sum-fraction, sum-equal}
 use Rattle.numbers.proofs.Laws.Refusals.{task-precision, precision-range, known-mode, none-unfit}
+use Rattle.numbers.proofs.Laws.Rounded.{value-fraction}
 use Rattle.numbers.proofs.Laws.Value.{same-outcome}
 use Rattle.arithmetic.specs.Operations.{operationOf, codedOf}
-use Rattle.arithmetic.specs.Private.{exactValue, IsExact, IsJudged}
+use Rattle.arithmetic.specs.Private.{operandValue, exactValue, IsExact, IsJudged}
 use Rattle.arithmetic.specs.declared.judgement.Judgement.{Judgement}
+use Rattle.arithmetic.specs.declared.operand.Operand.{Operand}
 use Rattle.arithmetic.specs.declared.rounding.Exact.{Exact}
+use Rattle.arithmetic.proofs.Laws.Operands.{operand-fraction}
 
 -- an exact value, and another of the same amount
 pub exact-equal : (x : Exact) (u v : Fraction) → IsFraction u → IsFraction v → Equal v u → IsExact x u → IsExact x v
@@ -21,6 +25,12 @@ exact-equal x u v u0 v0 e h = record {
   biased = h .biased;
   rounds = λ (task : Task) (n0 : 1 ≤ precisionOf task) (n1 : precisionOf task ≤ 64). h .rounds task n0 n1 ∙ sym (same-outcome task v u v0 u0 n0 e);
 }
+
+-- the exact sum of two operands is that of the numbers that have their values
+pub sum-same : (r : Exact) (a b : Number) (x y : Operand) → Equal (value a) (operandValue x) → Equal (value b) (operandValue y) → IsExact r (sum (operandValue x) (operandValue y)) → IsExact r (sum (value a) (value b))
+sum-same r a b x y a-is b-is =
+    exact-equal r (sum (operandValue x) (operandValue y)) (sum (value a) (value b)) (sum-fraction (operandValue x) (operandValue y) (operand-fraction x) (operand-fraction y))
+    (sum-fraction (value a) (value b) (value-fraction a) (value-fraction b)) (sum-equal (value a) (value b) (operandValue x) (operandValue y) a-is b-is)
 
 -- the case of a judgement that a match has found
 pub judged-as : (a b : Number) (n : ℕ) (r j : Judgement) → IsJudged a b n r → r ≡ j → IsJudged a b n j

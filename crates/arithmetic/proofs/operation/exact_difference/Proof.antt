@@ -8,6 +8,7 @@ use Rattle.numbers.specs.declared.number.Number.{Number}
 use Rattle.numbers.proofs.Laws.Negated.{negated-working, difference-is}
 use Rattle.arithmetic.specs.Private.{IsExact}
 use Rattle.arithmetic.specs.declared.rounding.Exact.{Exact}
+use Rattle.arithmetic.proofs.Laws.Entries.{sum-same}
 use Rattle.arithmetic.proofs.operation.exact_difference.Statement.{statement}
 use Rattle.arithmetic.proofs.operation.exact_difference.Tie as tie
 
@@ -17,14 +18,22 @@ still-working b c e h = ap isWorking e ∙ negated-working b ∙ h
 less : (r : Exact) (a b c : Number) → c ≡ negated b → IsExact r (sum (value a) (value c)) → IsExact r (difference (value a) (value b))
 less r a b c e h = rw (← difference-is (value a) b, ← e) h
 
+operand-of-requires : tie.Need-operand-of-requires
+operand-of-requires c κs = search needs
+
 negated-requires : tie.Need-negated-requires
 negated-requires c κs = search needs
 
-exact-sum-requires : tie.Need-exact-sum-requires
-exact-sum-requires c κs = (c .before .pre .0, still-working _ _ (c .negated .ensures) (c .before .pre .1))
+operand-of-requires-2 : tie.Need-operand-of-requires-2
+operand-of-requires-2 c κs = still-working _ _ (c .negated .ensures) (c .before .before .pre .1)
+
+sum-of-requires : tie.Need-sum-of-requires
+sum-of-requires c κs = search needs
 
 returns : tie.Need-returns
-returns c = less _ _ _ _ (c .before .negated .ensures) (c .exact-sum .ensures)
+returns c =
+    less _ _ _ _ (c .before .before .negated .ensures)
+    (sum-same _ _ _ _ _ (c .before .before .before .operand-of .ensures .0) (c .before .operand-of2 .ensures .0) (c .sum-of .ensures))
 
 pub exact-difference-spec : {M : Type 1} → statement M
-exact-difference-spec = tie.close (tie.spec negated-requires exact-sum-requires returns)
+exact-difference-spec = tie.close (tie.spec operand-of-requires negated-requires operand-of-requires-2 sum-of-requires returns)

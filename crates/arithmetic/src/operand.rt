@@ -3,6 +3,7 @@ ghost use mathlib.Core.Path.{_≡_};
 ghost use mathlib.Core.Bool.{true};
 ghost use Prim.Native.Nat.{_≤_};
 ghost use lib.Ieee.{minus};
+ghost use Rattle.numbers.specs.Biased.{bias, highestBiased};
 ghost use Rattle.numbers.specs.Fraction.{Equal, value};
 ghost use Rattle.numbers.specs.Number.{isWorkingExponent, isWorking};
 ghost use Rattle.arithmetic.specs.Private.{operandValue, IsOperand};
@@ -43,7 +44,7 @@ pub(crate) fn operand_of(x: Number) -> Operand
 // A working exponent with the bias added.
 fn biased(exponent: i32) -> u32
     requires { ⌜ isWorkingExponent exponent ≡ true ⌝ }
-    ensures { λ r. ⌜ (exponent ≡ minus r 65535) × (r ≤ 131071) ⌝ }
+    ensures { λ r. ⌜ (exponent ≡ minus r bias) × (r ≤ highestBiased) ⌝ }
 {
     (exponent + BIAS) as u32
 }

@@ -4,7 +4,7 @@ ghost use mathlib.Core.Path.{_≡_};
 ghost use Prim.Native.Nat.{_≤_};
 ghost use Rattle.numbers.specs.Answer.{outcome, rounded};
 ghost use Rattle.numbers.specs.Rounding.{precisionOf};
-ghost use Rattle.arithmetic.specs.Private.{exactValue};
+ghost use Rattle.arithmetic.specs.Private.{exactValue, highestExact};
 use numbers::answer::Answer;
 use numbers::rounding::round_cell;
 use numbers::task::Task;
@@ -24,7 +24,7 @@ pub(crate) struct Exact {
 
 // A value rounded once, or claimed exact, by its task.
 pub(crate) fn rounded(x: Exact, task: Task) -> Answer
-    requires { ⌜ (x .exponent ≤ 262142) × (1 ≤ precisionOf task) × (precisionOf task ≤ 64) ⌝ }
+    requires { ⌜ (x .exponent ≤ highestExact) × (1 ≤ precisionOf task) × (precisionOf task ≤ 64) ⌝ }
     ensures { λ r. ⌜ outcome r ≡ rounded task (exactValue x) ⌝ }
 {
     let negative = x.negative;

@@ -4,7 +4,7 @@ ghost use mathlib.Core.Path.{_≡_};
 ghost use mathlib.Core.Bool.{not};
 ghost use Prim.Native.Nat.{_*_, _^_};
 ghost use Rattle.numbers.specs.Fraction.{sum};
-ghost use Rattle.numbers.specs.Grid.{digit};
+ghost use Rattle.numbers.specs.Grid.{bitOf};
 ghost use Rattle.numbers.specs.Cell.{wide};
 ghost use Rattle.arithmetic.specs.Private.{operandValue, IsOperand, IsAligned, IsExact};
 use super::magnitude::difference;
@@ -30,7 +30,7 @@ fn raised(significand: u64) -> Words
 
 // One where there is a rest.
 fn borrow(rest: bool) -> Words
-    ensures { λ r. ⌜ wide (r .high) (r .low) ≡ digit rest ⌝ }
+    ensures { λ r. ⌜ wide (r .high) (r .low) ≡ bitOf rest ⌝ }
 {
     if rest {
         Words { high: 0, low: 1 }

@@ -1,5 +1,5 @@
--- The laws of codes: the field of an exponent, the number with a code's value, the parts of a code, the code that equals a number, what the entries
--- owe, and the theorems on reading and writing.
+-- The laws of codes: the field of an exponent, the number with a code's value, the leading one, the parts of a code, the code that equals a number,
+-- what packing answers, and the theorems on reading and writing.
 pub mod Places
 pub mod Decoded
 pub mod Leading

@@ -1,2 +1,2 @@
--- The laws; each function's proof stands in the folder of its name.
+-- The laws; each function's proof stands in the folder of its name, unless the checker proves it by itself.
 pub mod Laws

@@ -75,7 +75,7 @@ unfoldable pub decoded : Format → Code → Number
 decoded f c = Finite (c .negative) (minus (counted (c .field)) (f .bias)) (c .significand * 2 ^ (64 - f .precision))
 
 -- The number with that value and its top bit set, or zero. It has no more than 64 bits, so that nothing is dropped: `read-value` shows it.
-unfoldable pub normalized : Number → Number
+abbrev pub normalized : Number → Number
 normalized x = round Trunc 64 (value x)
 
 -- Row 11: "negative zero; double-extended with top bit set at field 0 or clear at another field". A binary64 code stores no top bit; `split` adds it

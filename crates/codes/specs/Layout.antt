@@ -47,7 +47,7 @@ HasEqualCode f x = (bytes : List ℕ) × IsBytes bytes × (y : Number) × (readi
 unfoldable pub ieeeFraction : Bool → ℕ → ℤ → Fraction
 ieeeFraction s m e = record { numerator = signed s (m * up e); denominator = down e }
 
--- at least 63 above the lowest working exponent, so that a shift of the significand leaves a working one
+-- zero, or an exponent from −65,472, 63 above the lowest working one, to the highest: a shift of the significand then leaves a working one
 unfoldable pub isNormalizable : Number → Bool
 isNormalizable Zero = true
 isNormalizable (Finite negative e S) = isBetween (negℤ (pos 65472)) (pos 65536) e

@@ -9,17 +9,17 @@ use lib.IntN.{ℤ, pos}
 use lib.ListN.{length, take, drop, replicate}
 use Rattle.little_endian.specs.Bytes.{littleEndian, bytesOf}
 use Rattle.numbers.specs.Number.{isSignificand, isBetween, isFit}
-use Rattle.numbers.specs.Fraction.{Fraction, signed, value, isEqual, sum, dividedBy, quotient}
-use Rattle.numbers.specs.Rounding.{settled, exponentOf, scaledNumerator, scaledDenominator, goesUp, wholeOf, placed, roundedAt, isNegative, round}
+use Rattle.numbers.specs.Fraction.{Fraction, signed, value, isEqual, sum, dividedBy, quotient, isNegative}
+use Rattle.numbers.specs.Rounding.{settled, exponentOf, scaledNumerator, scaledDenominator, goesUp, wholeOf, placed, roundedAt, round}
 use Rattle.numbers.specs.declared.number.Number.{Number}
 use Rattle.numbers.specs.declared.number.Number.the-variants.{Zero, Finite}
-use Rattle.blocks.specs.Block.{field, word, blockNumberOf, countOf, reservedOf, recordAt, recordsFrom, recordsOf, tailOf, areZero, sumOfWords, checkOf, hasCheck, mostRecords, isCount, closes, isLaidOut, isLargerThanAll, isSound, isLawful, areLawful, rowOf}
-use Rattle.depot.specs.Figures.{isParked, isMoved, rate, isOver, moreIf, withRate, whole, meanOf, Figures, given, refused, figuresBy}
+use Rattle.blocks.specs.Block.{field, blockNumberOf, countOf, reservedOf, recordAt, recordsFrom, recordsOf, tailOf, areZero, sumOfWords, checkOf, hasCheck, mostRecords, isCount, closes, isLaidOut, isLargerThanAll, isSound, isLawful, areLawful, rowOf}
+use Rattle.blocks.specs.declared.record.Record.{Record}
+use Rattle.depot.specs.Figures.{isMoved, rate, moreIf, withRate, whole, meanOf, Figures, given, refused, figuresBy}
 use Rattle.depot.specs.Depot.{fresh, withRecord, withRecords, withBlock, isNegativeNumber, isFitSum, areBlocksFit, isFitDepot, Loaded, loadRow, leftBy, loadOf, figuresOf}
 use Rattle.depot.specs.Book.{vansOf, isClosed, bookRow, addedBy, offered, countBy, ratesOf, movedCount, exactSum, exactMean, totalFrom, totalOf, vansFigures}
 use Rattle.depot.specs.Calls.{Call, load, ask, depotAfter, bookAfter, Reply, toLoad, toAsk, repliesOf, repliesBy}
 use Rattle.depot.specs.Sequence.{recordBytes, recordsBytes, bodyOf, blockOf}
-use Rattle.blocks.specs.declared.record.Record.{Record}
 use Rattle.depot.specs.declared.state.Depot.{Depot}
 use Rattle.depot.proofs.Laws.Written.{block-bytes}
 
@@ -185,5 +185,5 @@ values =
     ∷ []
 
 pub known : map (λ (v : Result × Result). v .0) values ≡ map (λ (v : Result × Result). v .1) values
-unfolding values littleEndian bytesOf isSignificand isBetween isFit signed value isEqual sum dividedBy quotient settled exponentOf scaledNumerator scaledDenominator goesUp wholeOf placed roundedAt isNegative round field word blockNumberOf countOf reservedOf recordAt recordsFrom recordsOf tailOf areZero sumOfWords checkOf hasCheck mostRecords isCount closes isLaidOut isLargerThanAll isSound isLawful areLawful rowOf isParked isMoved rate isOver withRate whole meanOf fresh moreIf withRecord withRecords withBlock isNegativeNumber isFitSum areBlocksFit isFitDepot loadRow leftBy loadOf figuresBy figuresOf vansOf isClosed bookRow addedBy offered countBy ratesOf movedCount exactSum exactMean totalFrom totalOf vansFigures depotAfter bookAfter repliesOf repliesBy recordBytes recordsBytes bodyOf blockOf size
+unfolding values littleEndian bytesOf isSignificand isBetween isFit signed value isEqual sum dividedBy quotient settled exponentOf scaledNumerator scaledDenominator goesUp wholeOf placed roundedAt isNegative round field blockNumberOf countOf reservedOf recordAt recordsFrom recordsOf tailOf areZero sumOfWords checkOf hasCheck mostRecords isCount closes isLaidOut isLargerThanAll isSound isLawful areLawful rowOf isMoved rate withRate whole meanOf moreIf withRecord withRecords withBlock isNegativeNumber isFitSum areBlocksFit isFitDepot loadRow leftBy loadOf figuresBy figuresOf vansOf isClosed bookRow addedBy offered countBy ratesOf movedCount exactSum exactMean totalFrom totalOf vansFigures depotAfter bookAfter repliesOf repliesBy recordBytes recordsBytes bodyOf blockOf size
 known = refl

@@ -6,11 +6,11 @@ use lib.Ieee.{size}
 use lib.ListN.{take, set}
 use Rattle.little_endian.specs.Bytes.{littleEndian, bytesOf}
 use Rattle.numbers.specs.Number.{isSignificand, isBetween, isFit}
-use Rattle.numbers.specs.Fraction.{signed, value, sum, dividedBy, quotient}
-use Rattle.numbers.specs.Rounding.{settled, exponentOf, scaledNumerator, scaledDenominator, goesUp, wholeOf, placed, roundedAt, isNegative, round}
-use Rattle.blocks.specs.Block.{field, word, blockNumberOf, countOf, reservedOf, recordAt, recordsFrom, recordsOf, tailOf, areZero, sumOfWords, checkOf, hasCheck, mostRecords, isCount, closes, isLaidOut, isLargerThanAll, isSound, isLawful, areLawful, rowOf}
-use Rattle.depot.specs.Figures.{isParked, isMoved, rate, isOver, moreIf, withRate, whole, meanOf, figuresBy}
-use Rattle.depot.specs.Depot.{fresh, withRecord, withRecords, withBlock, isNegativeNumber, isFitSum, areBlocksFit, isFitDepot, loadRow, leftBy, loadOf, figuresOf}
+use Rattle.numbers.specs.Fraction.{signed, value, sum, dividedBy, quotient, isNegative}
+use Rattle.numbers.specs.Rounding.{settled, exponentOf, scaledNumerator, scaledDenominator, goesUp, wholeOf, placed, roundedAt, round}
+use Rattle.blocks.specs.Block.{field, blockNumberOf, countOf, reservedOf, recordAt, recordsFrom, recordsOf, tailOf, areZero, sumOfWords, checkOf, hasCheck, mostRecords, isCount, closes, isLaidOut, isLargerThanAll, isSound, isLawful, areLawful, rowOf}
+use Rattle.depot.specs.Figures.{isMoved, rate, moreIf, withRate, whole, meanOf, figuresBy}
+use Rattle.depot.specs.Depot.{withRecord, withRecords, withBlock, isNegativeNumber, isFitSum, areBlocksFit, isFitDepot, loadRow, leftBy, loadOf, figuresOf}
 use Rattle.depot.specs.Sequence.{recordBytes, recordsBytes, bodyOf, blockOf}
 use Rattle.text.specs.Text.{ascii, decimalBy, decimalOf, sixteenDigits, integerText, figureText}
 use Rattle.reporting.specs.Report.{lineOf, reportText, refusedBlockText, refusedCloseText, closingBy, closingText, afterBlock, reportFrom, piecesBy, piecesOf, reportOf}
@@ -43,5 +43,5 @@ values =
     ∷ []
 
 pub known-reports : map (λ (v : List ℕ × List ℕ). v .0) values ≡ map (λ (v : List ℕ × List ℕ). v .1) values
-unfolding values ascii littleEndian isSignificand isBetween isFit signed value sum dividedBy quotient settled exponentOf scaledNumerator scaledDenominator goesUp wholeOf placed roundedAt isNegative round field word blockNumberOf countOf reservedOf recordAt recordsFrom recordsOf tailOf areZero sumOfWords checkOf hasCheck mostRecords isCount closes isLaidOut isLargerThanAll isSound isLawful areLawful rowOf isParked isMoved rate isOver moreIf withRate whole meanOf figuresBy fresh withRecord withRecords withBlock isNegativeNumber isFitSum areBlocksFit isFitDepot loadRow leftBy loadOf figuresOf decimalBy decimalOf sixteenDigits integerText figureText lineOf reportText refusedBlockText refusedCloseText closingBy closingText afterBlock reportFrom piecesBy piecesOf reportOf bytesOf recordBytes recordsBytes bodyOf blockOf size
+unfolding values ascii littleEndian isSignificand isBetween isFit signed value sum dividedBy quotient settled exponentOf scaledNumerator scaledDenominator goesUp wholeOf placed roundedAt isNegative round field blockNumberOf countOf reservedOf recordAt recordsFrom recordsOf tailOf areZero sumOfWords checkOf hasCheck mostRecords isCount closes isLaidOut isLargerThanAll isSound isLawful areLawful rowOf isMoved rate moreIf withRate whole meanOf figuresBy withRecord withRecords withBlock isNegativeNumber isFitSum areBlocksFit isFitDepot loadRow leftBy loadOf figuresOf decimalBy decimalOf sixteenDigits integerText figureText lineOf reportText refusedBlockText refusedCloseText closingBy closingText afterBlock reportFrom piecesBy piecesOf reportOf bytesOf recordBytes recordsBytes bodyOf blockOf size
 known-reports = refl

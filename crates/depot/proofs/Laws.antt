@@ -2,7 +2,7 @@
 pub mod Split
 pub mod Written
 pub mod Sequence
--- Of figures: amounts, what roundings do to them, the bracket of a sum, its spread, the bracket of a mean, and the range of sums
+-- Of figures: sums in any order, amounts, what roundings do to them, the bracket of a sum, its spread, the bracket of a mean, and the range of sums
 pub mod Order
 pub mod Amounts
 pub mod Close

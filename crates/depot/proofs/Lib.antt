@@ -1,3 +1,3 @@
--- The theorem on lists of calls and the laws; each function's proof stands in the folder of its name.
+-- The theorem on lists of calls and the laws; each function's proof stands in the folder of its name, unless the checker proves it by itself.
 pub mod Laws
 pub mod Demand

@@ -7,7 +7,7 @@ use Rattle.numbers.specs.Number.{isAdmissible}
 use Rattle.numbers.specs.Rounding.{precisionOf}
 use Rattle.numbers.specs.declared.number.Number.{Number}
 use Rattle.numbers.specs.declared.task.Task.{Task}
-use Rattle.division.specs.Quotient.{isZero, unlessIndivisible}
+use Rattle.division.specs.Quotient.{isZero}
 use Rattle.division.specs.declared.judgement.Judgement.{Judgement}
 use Rattle.division.specs.declared.judgement.Judgement.the-variants.{Divisible, UnknownMode, BadPrecision, FirstUnfit, SecondUnfit, ZeroDivisor}
 

@@ -1,3 +1,3 @@
--- The laws and the known values; each function's proof stands in the folder of its name.
+-- The laws and the known values; each function's proof stands in the folder of its name, unless the checker proves it by itself.
 pub mod Laws
 pub mod Known

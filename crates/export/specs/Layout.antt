@@ -23,7 +23,7 @@ unfoldable pub exponentIn : ℕ → ℤ
 exponentIn w = cond (ltb w (2 ^ 31)) (pos w) (minus w (2 ^ 32))
 
 -- the kind of a number that is not zero: 1 for positive, 2 for negative
-unfoldable pub kindOf : Bool → ℕ
+abbrev pub kindOf : Bool → ℕ
 kindOf negative = cond negative 2 1
 
 -- the sixteen bytes of a number; those of zero are zero

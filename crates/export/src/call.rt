@@ -5,7 +5,7 @@ ghost use lib.ListN.{length};
 ghost use Rattle.numbers.specs.Answer.{outcome};
 ghost use Rattle.division.specs.Quotient.{quotientOutcome};
 ghost use Rattle.export.specs.Calls.{call, leftBy};
-ghost use Rattle.export.specs.Operands.{operandsOf, outcomeOf};
+ghost use Rattle.export.specs.Enums.{operandsOf, outcomeOf};
 use super::layout;
 use super::layout::NUMBER_BYTES;
 use super::layout::Reading;

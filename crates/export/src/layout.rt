@@ -7,7 +7,7 @@ ghost use Prim.Native.Nat.{_^_, _<_, _/_, _%_};
 ghost use lib.ListN.{length};
 ghost use Rattle.little_endian.specs.Bytes.{littleEndian, bytesOf};
 ghost use Rattle.export.specs.Layout.{exponentIn, wordOf, kindOf, numberOf, numberIn, layoutOf};
-ghost use Rattle.export.specs.Operands.{readingOf};
+ghost use Rattle.export.specs.Enums.{readingOf};
 use numbers::number::Number;
 
 // Bytes of a number.

@@ -8,14 +8,14 @@ use Prim.Native.Nat.{ℕ}
 use lib.Ieee.{size, minus}
 use lib.IntN.{ℤ}
 use Rattle.little_endian.specs.Bytes.{littleEndian, bytesOf}
-use Rattle.numbers.specs.Number.{isSignificand, isBetween, isFit, isWorkingExponent, isAdmissibleExponent, isWorking, isAdmissible, negated}
-use Rattle.numbers.specs.Fraction.{signed, value, isEqual, sum, product, dividedBy, quotient}
-use Rattle.numbers.specs.Rounding.{settled, exponentOf, scaledNumerator, scaledDenominator, goesUp, wholeOf, placed, roundedAt, isNegative, round, hasAtMostBits, taskOf, precisionOf, isPrecision}
+use Rattle.numbers.specs.Number.{isSignificand, isBetween, isFit, isWorkingExponent, isAdmissibleExponent, negated}
+use Rattle.numbers.specs.Fraction.{signed, value, isEqual, sum, product, dividedBy, quotient, isNegative}
+use Rattle.numbers.specs.Rounding.{settled, exponentOf, scaledNumerator, scaledDenominator, goesUp, wholeOf, placed, roundedAt, round, hasAtMostBits, taskOf, isPrecision}
 use Rattle.numbers.specs.Answer.{Outcome, given, refused, checked, claimed, rounded, unlessUnknown, unlessUnfit, judged}
 use Rattle.numbers.specs.declared.number.Number.{Number}
 use Rattle.numbers.specs.declared.number.Number.the-variants.{Zero, Finite}
 use Rattle.arithmetic.specs.Operations.{operationOf, roundingOf, codedOf, sumOf, productOf}
-use Rattle.codes.specs.Codes.{doubleExtended, binary64, exponentBits, allOnes, leadingOne, split, join, decoded, normalized, isCanonical, judgedCode, numberOf, readingOf, fieldOf, belowNormal, encoded, equalCode, Lent, unwritten, packed, writingOf}
+use Rattle.codes.specs.Codes.{doubleExtended, binary64, exponentBits, allOnes, leadingOne, split, join, decoded, isCanonical, judgedCode, numberOf, readingOf, fieldOf, belowNormal, encoded, equalCode, Lent, unwritten, packed, writingOf}
 use Rattle.division.specs.Quotient.{isZero, unlessIndivisible, quotientOf}
 use Rattle.division.specs.Seed.{nearest, entryOf}
 
@@ -136,5 +136,5 @@ values =
     ∷ []
 
 pub known : map (λ (v : Result × Result). v .0) values ≡ map (λ (v : Result × Result). v .1) values
-unfolding values negated readingOf numberOf judgedCode writingOf packed unwritten equalCode isEqual encoded fieldOf belowNormal normalized decoded isCanonical split join leadingOne bytesOf littleEndian exponentBits allOnes doubleExtended binary64 sumOf productOf codedOf operationOf roundingOf unlessUnknown unlessUnfit isPrecision precisionOf isWorking isFit isBetween isSignificand isWorkingExponent taskOf rounded checked claimed judged round roundedAt hasAtMostBits isNegative placed wholeOf goesUp scaledNumerator scaledDenominator exponentOf settled size value signed sum product quotientOf unlessIndivisible isZero isAdmissible isAdmissibleExponent quotient dividedBy entryOf nearest
+unfolding values negated readingOf numberOf judgedCode writingOf packed unwritten equalCode isEqual encoded fieldOf belowNormal decoded isCanonical split join leadingOne bytesOf littleEndian exponentBits allOnes doubleExtended binary64 sumOf productOf codedOf operationOf roundingOf unlessUnknown unlessUnfit isPrecision isFit isBetween isSignificand isWorkingExponent taskOf rounded checked claimed judged round roundedAt hasAtMostBits isNegative placed wholeOf goesUp scaledNumerator scaledDenominator exponentOf settled size value signed sum product quotientOf unlessIndivisible isZero isAdmissibleExponent quotient dividedBy entryOf nearest
 known = refl

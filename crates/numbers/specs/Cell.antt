@@ -3,12 +3,11 @@
 use mathlib.Core.Path.{_≡_}
 use mathlib.Core.Bool.{Bool, true, not, cond}
 use Prim.Native.Nat.{ℕ, _+_, _*_, _/_, _^_, _≤_}
-use lib.Ieee.{up, down}
-use lib.IntN.{ℤ, natAbs}
-use Rattle.numbers.specs.Fraction.{Fraction, IsFraction, signed}
+use lib.IntN.{ℤ}
+use Rattle.numbers.specs.Fraction.{Fraction, IsFraction, HasSign, above, below, scaled}
 use Rattle.numbers.specs.Rounding.{precisionOf, isPrecision}
 use Rattle.numbers.specs.Answer.{Outcome, refused, rounded}
-use Rattle.numbers.specs.Grid.{InCell}
+use Rattle.numbers.specs.Grid.{HasCell}
 use Rattle.numbers.specs.declared.task.Task.{Task}
 
 -- a magnitude of two words
@@ -17,7 +16,7 @@ wide high low = high * 2 ^ 64 + low
 
 -- the magnitude of x lies in the cell that goes from F × 2^e to (F + 1) × 2^e: at its lower end, or, with a rest, strictly inside
 unfoldable pub LiesIn : Fraction → ℕ → Bool → ℤ → Type 0
-LiesIn x F rest e = InCell rest (natAbs (x .numerator) * down e) F (x .denominator * up e)
+LiesIn x F rest e = HasCell x (above e) (below e) F rest
 
 -- the odd one of F and F + 1
 unfoldable pub oddOf : ℕ → ℕ
@@ -27,20 +26,16 @@ oddOf F = F / 2 * 2 + 1
 unfoldable pub endOf : ℕ → Bool → ℕ
 endOf F rest = cond rest (oddOf F) F
 
--- sign × F × 2^e
+-- sign × F × 2^e, where 2^e is 2^(above e) / 2^(below e): one of the two is 1
 unfoldable pub binary : Bool → ℕ → ℤ → Fraction
-binary negative F e = record { numerator = signed negative (F * up e); denominator = down e }
+binary negative F e = scaled negative F (above e) (below e)
 
 -- What rounding a cell answers. Row 2: "precision not 1 to 64".
 unfoldable pub cellRounding : Bool → ℕ → Bool → ℤ → Task → Outcome
 cellRounding negative F rest e task = cond (not (isPrecision (precisionOf task))) (refused 2) (rounded task (binary negative (endOf F rest) e))
 
--- x has this sign, or is zero
-unfoldable pub HasSign : Bool → Fraction → Type 0
-HasSign negative x = x .numerator ≡ signed negative (natAbs (x .numerator))
-
--- The answer is the rounding of every value of the cell, where the cell has no rest, or two bits more than the task asks. In a shorter cell with a rest
--- the values are rounded differently.
+-- The answer is the rounding of every value of the cell, where the cell has no rest, or two bits more than the task asks. With one bit more the odd end
+-- may be rounded otherwise than the values, and in a shorter cell the values themselves may differ.
 unfoldable pub RoundsEvery : Outcome → Bool → ℕ → Bool → ℤ → Task → Type 0
 RoundsEvery answer negative F rest e task =
     isPrecision (precisionOf task) ≡ true → (rest ≡ true → 2 * 2 ^ precisionOf task ≤ F)

@@ -14,7 +14,7 @@ pub record Fraction : Type 0 where
   pub denominator : ℕ
 
 -- the record takes a denominator of 0 too: the laws ask for a positive one
-unfoldable pub IsFraction : Fraction → Type 0
+abbrev pub IsFraction : Fraction → Type 0
 IsFraction x = 0 < x .denominator
 
 -- "two are compared by cross products.": x = y, x ≤ y and x < y
@@ -38,6 +38,10 @@ isEqual x y =
 unfoldable pub signed : Bool → ℕ → ℤ
 signed false a = pos a
 signed true a = negℤ (pos a)
+
+unfoldable pub isNegative : ℤ → Bool
+isNegative (pos a) = false
+isNegative (negsuc a) = true
 
 -- "The value is sign × S × 2^(e − 63)." Zero is 0 / 1. 2^e is up e / down e (lib.Ieee): of the two, one is a power of 2 and the other is 1.
 unfoldable pub value : Number → Fraction
@@ -75,3 +79,27 @@ magnitude x = record { numerator = pos (natAbs (x .numerator)); denominator = x 
 
 unfoldable pub times : ℕ → Fraction → Fraction
 times k x = record { numerator = x .numerator *ℤ pos k; denominator = x .denominator }
+
+-- ---- terms of cells, of meanings and of laws, of which document 01 does not speak
+
+-- x has this sign, or is zero
+abbrev pub HasSign : Bool → Fraction → Type 0
+HasSign negative x = x .numerator ≡ signed negative (natAbs (x .numerator))
+
+-- the part of a whole number above zero and the part below it, of which one is 0
+abbrev pub above : ℤ → ℕ
+above (pos a) = a
+above (negsuc a) = 0
+
+abbrev pub below : ℤ → ℕ
+below (pos a) = 0
+below (negsuc a) = suc a
+
+-- ± N × 2^i / 2^o: a whole number of grids 2^i / 2^o
+abbrev pub scaled : Bool → ℕ → ℕ → ℕ → Fraction
+scaled s N i o = record { numerator = signed s (N * 2 ^ i); denominator = 2 ^ o }
+
+-- x is ± N × 2^i / 2^o
+pub record IsScaled (x : Fraction) (s : Bool) (N i o : ℕ) : Type 0 where
+  pub positive : IsFraction x
+  pub amount : Equal x (scaled s N i o)

@@ -30,10 +30,10 @@ unfoldable pub isFit : (ℤ → Bool) → Number → Bool
 isFit inRange Zero = true
 isFit inRange (Finite negative e S) = inRange e && isSignificand S
 
-unfoldable pub isWorking : Number → Bool
+abbrev pub isWorking : Number → Bool
 isWorking x = isFit isWorkingExponent x
 
-unfoldable pub isAdmissible : Number → Bool
+abbrev pub isAdmissible : Number → Bool
 isAdmissible x = isFit isAdmissibleExponent x
 
 -- −x

@@ -1,10 +1,10 @@
 -- Document 01, "Rounding to n bits, n from 1 to 64". In the formulas 2^e is the fraction up e / down e of lib.Ieee; these are not the modes Up and Down.
-use mathlib.Core.Bool.{Bool, true, false, not, _&&_, _||_, cond}
+use mathlib.Core.Bool.{Bool, false, not, _&&_, _||_, cond}
 use Prim.Native.Nat.{ℕ, _+_, _-_, _*_, _/_, _%_, _^_}
 use lib.Dec.{leb, ltb, eqb}
 use lib.Ieee.{size, up, down, minus}
-use lib.IntN.{ℤ, pos, negsuc, natAbs, sucℤ, predℤ}
-use Rattle.numbers.specs.Fraction.{Fraction}
+use lib.IntN.{ℤ, natAbs, sucℤ, predℤ}
+use Rattle.numbers.specs.Fraction.{Fraction, isNegative}
 use Rattle.numbers.specs.declared.number.Number.{Number}
 use Rattle.numbers.specs.declared.number.Number.the-variants.{Zero, Finite}
 use Rattle.numbers.specs.declared.task.Mode.{Mode}
@@ -51,10 +51,6 @@ placed negative e n q = cond (eqb q (2 ^ n)) (Finite negative (sucℤ e) (2 ^ 63
 unfoldable pub roundedAt : ℤ → Mode → ℕ → Bool → ℕ → ℕ → Number
 roundedAt e mode n negative a b = placed negative e n (wholeOf mode negative (scaledNumerator n e a) (scaledDenominator e b))
 
-unfoldable pub isNegative : ℤ → Bool
-isNegative (pos a) = false
-isNegative (negsuc a) = true
-
 -- x rounded to n bits. "Zero rounds to zero."
 unfoldable pub round : Mode → ℕ → Fraction → Number
 round mode n x =
@@ -84,7 +80,7 @@ taskOf code n =
     (claim n))))))
 
 -- the n of a task, and "n from 1 to 64"
-unfoldable pub precisionOf : Task → ℕ
+abbrev pub precisionOf : Task → ℕ
 precisionOf (Round rounding) = rounding .precision
 precisionOf (Exact claim) = claim .precision
 

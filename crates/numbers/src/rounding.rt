@@ -5,12 +5,14 @@ ghost use mathlib.Core.Bool.{true};
 ghost use Prim.Native.Nat.{_+_, _*_, _^_, _≤_, _<_};
 ghost use lib.Dec.{ltb};
 ghost use lib.Ieee.{minus};
+ghost use Rattle.numbers.specs.Biased.{raise, bias, highestBiased};
 ghost use Rattle.numbers.specs.Answer.{outcome, checked, rounded};
 ghost use Rattle.numbers.specs.Number.{isWorkingExponent};
 ghost use Rattle.numbers.specs.Rounding.{goesUp, precisionOf};
-ghost use Rattle.numbers.specs.Grid.{digit};
+ghost use Rattle.numbers.specs.Grid.{bitOf};
 ghost use Rattle.numbers.specs.Cell.{wide, endOf, cellRounding, RoundsEvery};
-ghost use Rattle.numbers.specs.Magnitude.{raise, scaledValue, roundedTop, claimedTop};
+ghost use Rattle.numbers.specs.Magnitude.{roundedTop, claimedTop};
+ghost use Rattle.numbers.specs.Fraction.{scaled};
 use super::answer::Answer;
 use super::number::Number;
 use super::number::TOP_BIT;
@@ -76,15 +78,15 @@ fn end_of(cell: Cell) -> Words
 
 // The working exponent that a biased one stands for.
 fn unbiased(b: u64) -> i32
-    requires { ⌜ b ≤ 131071 ⌝ }
-    ensures { λ r. ⌜ r ≡ minus b 65535 ⌝ }
+    requires { ⌜ b ≤ highestBiased ⌝ }
+    ensures { λ r. ⌜ r ≡ minus b bias ⌝ }
 {
     b as i32 - BIAS
 }
 
 // Is there a fraction? It is fraction / 2^64, and a little more where rest is set.
 fn has_fraction(fraction: u64, rest: bool) -> bool
-    ensures { λ r. ⌜ r ≡ ltb 0 (2 * fraction + digit rest) ⌝ }
+    ensures { λ r. ⌜ r ≡ ltb 0 (2 * fraction + bitOf rest) ⌝ }
 {
     if fraction > 0 {
         return true;
@@ -94,7 +96,7 @@ fn has_fraction(fraction: u64, rest: bool) -> bool
 
 // Does the whole number go up by one?
 fn goes_up(mode: Mode, negative: bool, whole: u64, fraction: u64, rest: bool) -> bool
-    ensures { λ r. ⌜ r ≡ goesUp mode negative whole (2 * fraction + digit rest) (2 ^ 65) ⌝ }
+    ensures { λ r. ⌜ r ≡ goesUp mode negative whole (2 * fraction + bitOf rest) (2 ^ 65) ⌝ }
 {
     if !has_fraction(fraction, rest) {
         return false;
@@ -189,7 +191,7 @@ fn claim_top(negative: bool, exponent: u64, zeros: u32, top: Words, claim: Claim
 // A two-word magnitude rounded once, or claimed exact, by its task.
 fn rounded(negative: bool, exponent: u64, magnitude: Words, task: Task) -> Answer
     requires { ⌜ (exponent < 2 ^ 32) × (1 ≤ precisionOf task) × (precisionOf task ≤ 64) ⌝ }
-    ensures { λ r. ⌜ outcome r ≡ rounded task (scaledValue negative (wide (magnitude .high) (magnitude .low)) exponent raise) ⌝ }
+    ensures { λ r. ⌜ outcome r ≡ rounded task (scaled negative (wide (magnitude .high) (magnitude .low)) exponent raise) ⌝ }
 {
     if magnitude.high == 0 {
         if magnitude.low == 0 {

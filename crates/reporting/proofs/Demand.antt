@@ -5,16 +5,15 @@ use mathlib.Core.Option.{Option, none, some}
 use mathlib.Core.Path.{_≡_, refl, ap, _∙_}
 use Prim.Native.Nat.{ℕ, suc, _≤_}
 use native.Mathlib.Nat.{pos-of-ne-zero}
-use native.Mathlib.Numerals.{add-one}
 use borrow.Author.Tests.{eqb-true, eqb-false}
 use lib.Dec.{eqb}
-use lib.ListN.{length, length-append}
+use lib.ListN.{length}
 use Rattle.little_endian.specs.Bytes.{IsBytes}
-use Rattle.blocks.proofs.Laws.Lists.{All}
 use Rattle.numbers.specs.Fraction.{value, quotient}
 use Rattle.numbers.specs.declared.number.Number.{Number}
 use Rattle.numbers.specs.declared.task.Mode.{Mode}
 use Rattle.numbers.specs.declared.task.Mode.the-variants.{Up, Down}
+use Rattle.blocks.proofs.Laws.Lists.{All}
 use Rattle.depot.specs.Figures.{whole, meanOf, given, refused, figuresBy}
 use Rattle.depot.specs.Depot.{isNegativeNumber, figuresOf}
 use Rattle.depot.specs.Book.{Book, vansOf, bookRow, addedBy, offered, offeredAll, IsTaken, IsSequence, movedCount, totalOf, vansFigures}
@@ -22,7 +21,7 @@ use Rattle.depot.specs.Calls.{Call, load, bookAfter}
 use Rattle.depot.proofs.Demand.{figures-bracketed}
 use Rattle.depot.proofs.Laws.Amounts.{part-amount}
 use Rattle.depot.proofs.Laws.Bracket.{IsSum, value-amount, round-sum}
-use Rattle.depot.proofs.Laws.Reached.{stateOf, begun, IsReached, reached-empty, sums-bracketed, load-agrees, offered-reached, figures-agree}
+use Rattle.depot.proofs.Laws.Reached.{stateOf, begun, IsReached, reached-empty, sums-bracketed, length-more, load-agrees, offered-reached, figures-agree}
 use Rattle.reporting.specs.Report.{closingBy, closingText, piecesOf, afterBlock, reportFrom, reportOf}
 use Rattle.reporting.specs.Demand.{IsPrinted, some-moved, none-moved, one-refused, ReportsHold}
 use Rattle.reporting.proofs.Laws.Pieces.{pieces-cut, pieces-bytes}
@@ -72,9 +71,6 @@ printed-from (piece ∷ pieces) book reached all are =
     taken : bookRow book piece ≡ none → offered book piece ≡ book ++ (piece ∷ [])
     taken is = rw is
 
-    longer : length (book ++ (piece ∷ [])) ≡ suc (length book)
-    longer = length-append book (piece ∷ []) ∙ add-one (length book)
-
     -- what the rest prints, where the piece is taken
     Rest : Type 0
     Rest = IsReached (book ++ (piece ∷ [])) → IsSequence (book ++ (piece ∷ []))
@@ -83,7 +79,7 @@ printed-from (piece ∷ pieces) book reached all are =
     go : (row : Option ℕ) → bookRow book piece ≡ row → Rest
         → IsPrinted (book ++ (piece ∷ pieces)) (afterBlock row (length book) (reportFrom (stateOf (offered book piece)) (suc (length book)) pieces))
     go none is rest =
-        rw (taken is, ← longer, ← append-assoc book (piece ∷ []) pieces)
+        rw (taken is, ← length-more book piece, ← append-assoc book (piece ∷ []) pieces)
         (rest (rw (taken is) at (offered-reached book piece (are .0) reached)) (book-more [] book piece ∙ ap (λ (b : Book). offered b piece) all ∙ taken is))
     go (some row) is rest = one-refused book piece pieces row refl all is
 

@@ -1,14 +1,11 @@
 -- The laws of the thirty-two steps, in their order.
--- Whole numbers times a power of two, in exact operations and after a task
-pub mod Exact
-pub mod Tasks
 -- The terms that the laws are stated in
 pub mod Terms
 -- A line on answers, and the run of the lines
-pub mod Line
+pub mod Combined
 pub mod Run
 -- Step 1: the seed
-pub mod Seed
+pub mod SeedStep
 -- Steps 2 to 8: the reciprocal and the halves of the divisor
 pub mod Shortened
 pub mod Complement
@@ -19,13 +16,9 @@ pub mod Worked
 pub mod Remainder
 pub mod Estimate
 pub mod Next
-pub mod Digit
+pub mod OneDigit
 -- Steps 30 to 32: the digits' sum is rounded as the exact quotient
-pub mod Pairs
-pub mod Multiples
-pub mod Alike
-pub mod Sticky
-pub mod Digits
+pub mod DigitSum
 -- All of them: every value is a result, and every step of admissible operands is given
 pub mod Results
 pub mod Failing

@@ -1,4 +1,4 @@
 -- The laws, the lines and the theorem; each function's proof stands in the folder of its name.
 pub mod Laws
-pub mod Lines
+pub mod TableLines
 pub mod Theorem

@@ -7,44 +7,45 @@ use borrow.Author.Tests.{ltb-false, le-leb}
 use lib.Dec.{ltb, lit≤}
 use lib.Ieee.{minus}
 use lib.IntN.{ℤ}
+use Rattle.numbers.specs.Biased.{bias}
 use Rattle.numbers.specs.Answer.{Outcome, given, refused, rounded, unlessUnknown, unlessUnfit}
 use Rattle.numbers.specs.Fraction.{value, quotient}
 use Rattle.numbers.specs.Number.{isWorking, isAdmissible}
-use Rattle.numbers.specs.Rounding.{round, byMode, taskOf, isPrecision, precisionOf}
+use Rattle.numbers.specs.Rounding.{round, byMode, taskOf, isPrecision}
 use Rattle.numbers.specs.declared.number.Number.{Number}
 use Rattle.numbers.specs.declared.number.Number.the-variants.{Zero, Finite}
 use Rattle.numbers.specs.declared.task.Mode.{Mode}
 use Rattle.numbers.proofs.Laws.Fits.{given-round, working-checked}
-use Rattle.numbers.proofs.Laws.Refusals.{precision-range}
+use Rattle.numbers.proofs.Laws.Refusals.{precision-range, mode-of}
+use Rattle.numbers.proofs.Laws.Scaled.{equal-scaled}
+use Rattle.numbers.proofs.Laws.Tests.{never}
 use Rattle.division.specs.Quotient.{isZero, quotientOutcome, unlessIndivisible, quotientOf}
-use Rattle.steps.specs.Steps.{afterStep}
 use Rattle.division.specs.Judgement.{IsTaken}
-use Rattle.steps.specs.Theorem.{IsDivided, IsAnswered, IsAnswer, Division}
-use Rattle.steps.specs.Wanted.{stepOutcome, isStep, stepOf}
 use Rattle.division.specs.declared.answer.Quotient.{Quotient}
 use Rattle.division.specs.declared.answer.Quotient.the-variants as answer
+use Rattle.division.proofs.Laws.Admissible.{admissible-parts}
+use Rattle.division.proofs.Laws.Divisible.{taken, quotient-taken}
+use Rattle.division.proofs.Laws.Range.{InRange, lowestAdmissible}
+use Rattle.steps.specs.Steps.{afterStep}
+use Rattle.steps.specs.Theorem.{IsDivided, IsAnswered, IsAnswer, Division}
+use Rattle.steps.specs.Wanted.{stepOutcome, isStep, stepOf}
 use Rattle.steps.specs.declared.answer.Step.{Step}
 use Rattle.steps.specs.declared.answer.Step.the-variants as step
-use Rattle.division.proofs.Laws.Admissible.{admissible-parts}
 use Rattle.steps.proofs.Laws.Divided.{last-step, no-step-fails, step-given}
 use Rattle.steps.proofs.Laws.Run.{step-range}
-use Rattle.division.proofs.Laws.Divisible.{mode-of, taken, quotient-taken}
-use Rattle.steps.proofs.Laws.Line.{as-given}
+use Rattle.steps.proofs.Laws.Combined.{as-given}
 use Rattle.steps.proofs.Laws.Results.{step-result}
-use Rattle.division.proofs.Laws.Scaled.{equal-scaled}
-use Rattle.steps.proofs.Laws.Seed.{seed-scaled, seed-step, seed-rule}
-use Rattle.division.proofs.Laws.Range.{InRange}
-use Rattle.steps.proofs.Lines.{line-1}
+use Rattle.steps.proofs.Laws.SeedStep.{seed-scaled, seed-step, seed-rule}
+use Rattle.steps.proofs.TableLines.{line-1}
 
-divided : (s : Bool) (b D : ℕ) → InRange 49089 b D → (p : Number) (mode : Mode) (n : ℕ) → isAdmissible p ≡ true → 1 ≤ n → n ≤ 64 → IsDivided p (Finite s (minus b 65535) D) mode n
-unfolding precisionOf
+divided : (s : Bool) (b D : ℕ) → InRange lowestAdmissible b D → (p : Number) (mode : Mode) (n : ℕ) → isAdmissible p ≡ true → 1 ≤ n → n ≤ 64 → IsDivided p (Finite s (minus b bias) D) mode n
 divided s b D range p mode n fit n0 n1 =
-    let d = Finite s (minus b 65535) D in
+    let d = Finite s (minus b bias) D in
     let first = seed-step s b D range in
     let final = step-given s b D range p fit mode n n0 n1 32 (lit≤ tt) (lit≤ tt) in
     record {
       seed-given = (first .number, line-1 p d (byMode mode n) ∙ first .step, equal-scaled (first .amount) (seed-scaled s b D));
-      seed-near = seed-rule s (minus b 65535) D (range .top) (range .word);
+      seed-near = seed-rule s (minus b bias) D (range .top) (range .word);
       no-step-fails = no-step-fails s b D range p fit mode n n0 n1;
       every-step-given = λ (k : ℕ) (k0 : 1 ≤ k) (k1 : k ≤ 32).
           let x = step-given s b D range p fit mode n n0 n1 k k0 k1 in
@@ -132,7 +133,7 @@ module _ (p d : Number) (code n : ℕ) where
 
 -- an answer that is read as a number is that number
 refused-given : (k : ℕ) (x : Number) → refused k ≡ given x → ⊥
-refused-given k x e = let z : _≡_ {A = ℕ} 0 1 = cc in omega arith
+refused-given k x e = never cc
 
 given-step : (r : Step) (x : Number) → stepOutcome r ≡ given x → r ≡ step.Given x
 unfolding stepOutcome

@@ -11,10 +11,10 @@ use Rattle.numbers.specs.declared.number.Number.{Number}
 use Rattle.numbers.specs.declared.task.Mode.{Mode}
 use Rattle.division.specs.Judgement.{IsTaken}
 use Rattle.division.specs.Quotient.{isZero, quotientOutcome, quotientOf}
-use Rattle.steps.specs.Steps.{seed, afterStep, Fails}
-use Rattle.steps.specs.Wanted.{stepOutcome, stepOf}
 use Rattle.division.specs.declared.answer.Quotient.{Quotient}
 use Rattle.division.specs.declared.answer.Quotient.the-variants as answer
+use Rattle.steps.specs.Steps.{seed, afterStep, Fails}
+use Rattle.steps.specs.Wanted.{stepOutcome, stepOf}
 use Rattle.steps.specs.declared.answer.Step.{Step}
 use Rattle.steps.specs.declared.answer.Step.the-variants as step
 

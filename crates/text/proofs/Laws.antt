@@ -1,6 +1,4 @@
--- The laws of the crate `text`: what is cut (Cut), digits and the definitions' (Digits), what the machine reads of a signed word (Signed), and the most
--- bytes of numbers and figures (Lengths).
+-- The laws of the crate `text`: what is cut (Cut), digits and the definitions' (Digits), and the most bytes of numbers and figures (Lengths).
 pub mod Cut
 pub mod Digits
-pub mod Signed
 pub mod Lengths

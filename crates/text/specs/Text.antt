@@ -8,9 +8,9 @@ use Prim.Native.String as string
 use lib.Dec.{ltb}
 use lib.IntN.{ℤ, pos, negsuc}
 use lib.ListN.{take}
-use Rattle.io.specs.Digits.{glyph, digits}
 use Rattle.numbers.specs.declared.number.Number.{Number}
 use Rattle.numbers.specs.declared.number.Number.the-variants.{Zero, Finite}
+use Rattle.io.specs.Digits.{glyph, digits}
 use Rattle.text.specs.declared.text.Text.{Text}
 
 -- what is written of a text: the bytes before its length

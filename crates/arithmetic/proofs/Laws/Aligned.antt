@@ -7,16 +7,19 @@ use native.Mathlib.Decide.{decLe}
 use native.Mathlib.Nat.{le-of-lt, le-trans, lt-of-not-le, lt-of-mul-lt-mul-right, le-of-mul-le-mul-right, mul-assoc, mul-le-mul-left, mul-le-mul-right, div-le-self}
 use native.Mathlib.Omega.{arith}
 use lib.Dec.{ltb, lit≤}
-use lib.Pow.{pow-add, pow-pos, pow-mono}
+use lib.Pow.{pow-pos, pow-mono}
+use Rattle.numbers.specs.Biased.{bias}
 use Rattle.numbers.specs.Rounding.{precisionOf}
-use Rattle.numbers.specs.Fraction.{IsFraction, signed, sum}
+use Rattle.numbers.specs.Fraction.{signed, sum, scaled}
 use Rattle.numbers.specs.Answer.{rounded}
-use Rattle.numbers.specs.Grid.{InCell, digit}
-use Rattle.numbers.specs.declared.task.Task.{Task}
-use Rattle.numbers.proofs.Laws.Fractions.{fraction, same-sum, other-sum, sum-fraction}
-use Rattle.numbers.proofs.Laws.Value.{cell-of, same-outcome}
+use Rattle.numbers.specs.Grid.{InCell, bitOf}
 use Rattle.numbers.specs.Cell.{wide, endOf}
-use Rattle.numbers.specs.Magnitude.{scaledValue}
+use Rattle.numbers.specs.declared.task.Task.{Task}
+use Rattle.numbers.proofs.Laws.Whole.{cell-of}
+use Rattle.numbers.proofs.Laws.Pairs.{fraction}
+use Rattle.numbers.proofs.Laws.Fractions.{same-sum, other-sum, sum-fraction}
+use Rattle.numbers.proofs.Laws.Value.{same-outcome}
+use Rattle.numbers.proofs.Laws.Powers.{power-sum}
 use Rattle.arithmetic.specs.Private.{lastBit, operandValue, IsOperand, IsAligned, exactValue, IsExact}
 use Rattle.arithmetic.specs.declared.operand.Operand.{Operand}
 use Rattle.arithmetic.proofs.Laws.Sum.{cell-rounds, cell-added, cell-subtracted, raised-power, shifted-cell}
@@ -26,7 +29,7 @@ use Rattle.arithmetic.proofs.Laws.Sum.{cell-rounds, cell-added, cell-su
 two-words : (a b y k w : ℕ) → 0 < k → a < w → b < w → y ≤ b * k → a * k + y < (w + w) * k
 two-words a b y k w k0 ha hb h = omega (arith, mul-le-mul-right k ha, mul-le-mul-right k hb)
 
-room : (rest : Bool) (a b y k g : ℕ) → 0 < g → b ≤ a * g → InCell rest (b * k) y g → digit rest + y ≤ a * k
+room : (rest : Bool) (a b y k g : ℕ) → 0 < g → b ≤ a * g → InCell rest (b * k) y g → bitOf rest + y ≤ a * k
 room false a b y k g g0 h c = le-of-mul-le-mul-right {k = g} (omega (arith, mul-le-mul-right k h)) g0
 room true a b y k g g0 h c = let l : y < a * k = lt-of-mul-lt-mul-right g (omega (arith, c .0, mul-le-mul-right k h)) in omega arith
 
@@ -42,7 +45,7 @@ far : (b y d : ℕ) → InCell true (b * 2 ^ 63) y (2 ^ d) → 64 ≤ d
 far b y d c = go (decLe 64 d)
   where
     parts : d ≤ 63 → b * 2 ^ 63 ≡ b * 2 ^ (63 - d) * 2 ^ d
-    parts l = ap (λ (n : ℕ). b * n) (ap (λ (n : ℕ). 2 ^ n) (let e : 63 ≡ 63 - d + d = omega arith in e) ∙ pow-add 2 (63 - d) d) ∙ sym (mul-assoc b (2 ^ (63 - d)) (2 ^ d))
+    parts l = ap (λ (n : ℕ). b * n) (power-sum 63 (63 - d) d (omega arith)) ∙ sym (mul-assoc b (2 ^ (63 - d)) (2 ^ d))
 
     go : Dec (64 ≤ d) → 64 ≤ d
     go (yes l) = l
@@ -57,11 +60,11 @@ wide-enough (suc a) b y k w g F e k0 b1 far normal h c l =
     omega (arith, mul-le-mul-right k a0, mul-le-mul-right k k0)
 
 -- what lies in the cell y lies below l on the grid, where the cell does
-under : (rest : Bool) (b y g l : ℕ) → InCell rest b y g → digit rest + y ≤ l → b ≤ l * g
+under : (rest : Bool) (b y g l : ℕ) → InCell rest b y g → bitOf rest + y ≤ l → b ≤ l * g
 under false b y g l c h = omega (arith, mul-le-mul-right g h)
 under true b y g l c h = omega (arith, c .1, mul-le-mul-right g h)
 
-flag : (rest : Bool) (m y l : ℕ) → m + digit rest + y ≡ l → l ≤ m + 1 + y
+flag : (rest : Bool) (m y l : ℕ) → m + bitOf rest + y ≡ l → l ≤ m + 1 + y
 flag false m y l e = omega arith
 flag true m y l e = omega arith
 
@@ -77,7 +80,7 @@ module _ (large small : Operand) (h : IsAligned large small) (Y : ℕ) (rest : B
       two-words (large .significand) (small .significand) Y (2 ^ 63) (2 ^ 64) (pow-pos 63) (h .large-word) (h .small-word)
       (rw shifted (div-le-self (small .significand * 2 ^ 63) (2 ^ (large .exponent - small .exponent))))
 
-  borrow-fits : digit rest + Y ≤ large .significand * 2 ^ 63
+  borrow-fits : bitOf rest + Y ≤ large .significand * 2 ^ 63
   borrow-fits = room rest (large .significand) (small .significand) Y (2 ^ 63) (2 ^ (large .exponent - small .exponent)) (pow-pos (large .exponent - small .exponent)) (h .larger) cell
 
   -- where there is a rest, F has two bits more than n, which is at most 64
@@ -88,34 +91,34 @@ module _ (large small : Operand) (h : IsAligned large small) (Y : ℕ) (rest : B
       (wide-enough (large .significand) (small .significand) Y (2 ^ 63) (2 ^ 64) (2 ^ (large .exponent - small .exponent)) F refl (lit≤ tt) (h .small-word) (pow-mono (far (small .significand) Y (large .exponent - small .exponent) c))
       (h .normal) (h .larger) c l)
 
-  grid-cell : InCell rest (small .significand * 2 ^ (small .exponent + 65598)) Y (2 ^ (large .exponent + 65535))
+  grid-cell : InCell rest (small .significand * 2 ^ (small .exponent + 65598)) Y (2 ^ (large .exponent + bias))
   grid-cell = shifted-cell rest (small .significand) (small .exponent) (large .exponent) Y (h .lower) cell
 
   added-rounds : (task : Task) → 1 ≤ precisionOf task → precisionOf task ≤ 64 → small .negative ≡ large .negative
-      → rounded task (scaledValue (large .negative) (endOf (large .significand * 2 ^ 63 + Y) rest) (large .exponent + 65535) lastBit) ≡ rounded task (sum (operandValue large) (operandValue small))
-  unfolding operandValue scaledValue IsFraction
+      → rounded task (scaled (large .negative) (endOf (large .significand * 2 ^ 63 + Y) rest) (large .exponent + bias) lastBit) ≡ rounded task (sum (operandValue large) (operandValue small))
+  unfolding operandValue
   added-rounds task n0 n1 sign =
       let s = large .negative in
       let F = large .significand * 2 ^ 63 + Y in
       let A = large .significand * 2 ^ (large .exponent + 65598) in
       let B = small .significand * 2 ^ (small .exponent + 65598) in
-      sym (cell-rounds task s (A + B) F (large .exponent + 65535) rest n0 (fine (precisionOf task) n1 F (omega arith)) (rw (raised-power (large .significand) (large .exponent)) (cell-added rest (large .significand * 2 ^ 63) B Y (2 ^ (large .exponent + 65535)) grid-cell)))
+      sym (cell-rounds task s (A + B) F (large .exponent + bias) rest n0 (fine (precisionOf task) n1 F (omega arith)) (rw (raised-power (large .significand) (large .exponent)) (cell-added rest (large .significand * 2 ^ 63) B Y (2 ^ (large .exponent + bias)) grid-cell)))
       ∙ rw sign
       (sym (same-outcome task (sum (fraction (signed s A) (2 ^ lastBit)) (fraction (signed s B) (2 ^ lastBit))) (fraction (signed s (A + B)) (2 ^ lastBit))
       (sum-fraction (fraction (signed s A) (2 ^ lastBit)) (fraction (signed s B) (2 ^ lastBit)) (pow-pos lastBit) (pow-pos lastBit)) (pow-pos lastBit) n0 (same-sum s A B (2 ^ lastBit))))
 
-  subtracted-rounds : (task : Task) → 1 ≤ precisionOf task → precisionOf task ≤ 64 → small .negative ≡ not (large .negative) → (m : ℕ) → m + digit rest + Y ≡ large .significand * 2 ^ 63
-      → rounded task (scaledValue (large .negative) (endOf m rest) (large .exponent + 65535) lastBit) ≡ rounded task (sum (operandValue large) (operandValue small))
-  unfolding operandValue scaledValue IsFraction
+  subtracted-rounds : (task : Task) → 1 ≤ precisionOf task → precisionOf task ≤ 64 → small .negative ≡ not (large .negative) → (m : ℕ) → m + bitOf rest + Y ≡ large .significand * 2 ^ 63
+      → rounded task (scaled (large .negative) (endOf m rest) (large .exponent + bias) lastBit) ≡ rounded task (sum (operandValue large) (operandValue small))
+  unfolding operandValue
   subtracted-rounds task n0 n1 sign m e =
       let s = large .negative in
       let A = large .significand * 2 ^ (large .exponent + 65598) in
       let B = small .significand * 2 ^ (small .exponent + 65598) in
-      let G = 2 ^ (large .exponent + 65535) in
+      let G = 2 ^ (large .exponent + bias) in
       let L = large .significand * 2 ^ 63 in
       let on-grid : A ≡ L * G = raised-power (large .significand) (large .exponent) in
       let less : B ≤ L * G = under rest B Y G L grid-cell borrow-fits in
-      sym (cell-rounds task s (A - B) m (large .exponent + 65535) rest n0 (fine (precisionOf task) n1 m (flag rest m Y L e)) (rw on-grid (cell-subtracted rest L B Y G m less e grid-cell)))
+      sym (cell-rounds task s (A - B) m (large .exponent + bias) rest n0 (fine (precisionOf task) n1 m (flag rest m Y L e)) (rw on-grid (cell-subtracted rest L B Y G m less e grid-cell)))
       ∙ rw sign
       (sym (same-outcome task (sum (fraction (signed s A) (2 ^ lastBit)) (fraction (signed (not s) B) (2 ^ lastBit))) (fraction (signed s (A - B)) (2 ^ lastBit))
       (sum-fraction (fraction (signed s A) (2 ^ lastBit)) (fraction (signed (not s) B) (2 ^ lastBit)) (pow-pos lastBit) (pow-pos lastBit)) (pow-pos lastBit) n0 (other-sum s A B (2 ^ lastBit) (rw on-grid less))))
@@ -136,7 +139,7 @@ module _ (large small : Operand) (h : IsAligned large small) (T S Y : ℕ) (rest
   added-fits = rw top (sum-fits large small h Y rest shifted-is dropped-is)
 
   pub added-answer : small .negative ≡ large .negative → (high low : ℕ) → wide high low ≡ T + Y
-      → IsExact (record { negative = large .negative; exponent = large .exponent + 65535; high = high; low = low; rest = rest }) (sum (operandValue large) (operandValue small))
+      → IsExact (record { negative = large .negative; exponent = large .exponent + bias; high = high; low = low; rest = rest }) (sum (operandValue large) (operandValue small))
   unfolding exactValue
   added-answer sign high low m = record {
     biased = omega (arith, h .biased);
@@ -144,17 +147,17 @@ module _ (large small : Operand) (h : IsAligned large small) (T S Y : ℕ) (rest
   }
 
   -- the difference, less Y and then less the borrow b
-  borrow-room : digit rest + Y ≤ T
+  borrow-room : bitOf rest + Y ≤ T
   borrow-room = rw top (borrow-fits large small h Y rest shifted-is dropped-is)
 
   pub subtracted-fits : Y ≤ T
   subtracted-fits = let r = borrow-room in omega arith
 
-  pub borrowed-fits : (less b : ℕ) → less + Y ≡ T → b ≡ digit rest → b ≤ less
+  pub borrowed-fits : (less b : ℕ) → less + Y ≡ T → b ≡ bitOf rest → b ≤ less
   borrowed-fits less b e k = let r = borrow-room in omega arith
 
-  pub subtracted-answer : small .negative ≡ not (large .negative) → (less b high low : ℕ) → less + Y ≡ T → b ≡ digit rest → wide high low + b ≡ less
-      → IsExact (record { negative = large .negative; exponent = large .exponent + 65535; high = high; low = low; rest = rest }) (sum (operandValue large) (operandValue small))
+  pub subtracted-answer : small .negative ≡ not (large .negative) → (less b high low : ℕ) → less + Y ≡ T → b ≡ bitOf rest → wide high low + b ≡ less
+      → IsExact (record { negative = large .negative; exponent = large .exponent + bias; high = high; low = low; rest = rest }) (sum (operandValue large) (operandValue small))
   unfolding exactValue
   subtracted-answer sign less b high low l k m = record {
     biased = omega (arith, h .biased);

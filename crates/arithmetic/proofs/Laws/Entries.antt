@@ -8,9 +8,9 @@ use Rattle.numbers.specs.Number.{isWorking}
 use Rattle.numbers.specs.Rounding.{taskOf, precisionOf, isPrecision}
 use Rattle.numbers.specs.declared.number.Number.{Number}
 use Rattle.numbers.specs.declared.task.Task.{Task}
+use Rattle.numbers.proofs.Laws.Scaled.{value-fraction}
 use Rattle.numbers.proofs.Laws.Fractions.{sum-fraction, sum-equal}
 use Rattle.numbers.proofs.Laws.Refusals.{task-precision, precision-range, known-mode, none-unfit}
-use Rattle.numbers.proofs.Laws.Rounded.{value-fraction}
 use Rattle.numbers.proofs.Laws.Value.{same-outcome}
 use Rattle.arithmetic.specs.Operations.{operationOf, codedOf}
 use Rattle.arithmetic.specs.Private.{operandValue, exactValue, IsExact, IsJudged}

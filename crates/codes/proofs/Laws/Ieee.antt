@@ -4,28 +4,29 @@ use mathlib.Core.Path.{_≡_, refl, sym, ap, ap₂, _∙_}
 use mathlib.Core.Bool.{Bool, true, false, not, _&&_, cond, false≢true}
 use mathlib.Core.List.{List}
 use Prim.Native.Nat.{ℕ, zero, suc, _+_, _-_, _*_, _/_, _%_, _^_, _≤_, _<_}
-use native.Mathlib.Nat.{add-comm, add-zero, eq-of-mul-eq-mul-right, mul-assoc, mul-pos, pow-succ'}
+use native.Mathlib.Nat.{add-comm, add-zero, eq-of-mul-eq-mul-right, mul-assoc, mul-pos}
 use native.Mathlib.Omega.{arith}
 use borrow.Author.Tests.{le-leb, lt-leb, lt-ltb, ne-eqb, not-true}
 use lib.Dec.{leb, ltb, eqb}
 use lib.Ieee as ieee
 use lib.Ieee.{Float, nan, inf, fin, up, down, minus, ofBits, ofFields, odd}
-use lib.Ieee.Digits.{minus-val}
 use lib.Ieee.Exact.{HasValue, odd-sign}
 use lib.Ieee.Fits.{up-pos, down-pos}
 use lib.Ieee.Scale.{finite}
 use lib.IntN.{ℤ}
 use lib.ListN.{length}
-use lib.Pow.{pow-add, pow-pos}
+use lib.Pow.{pow-pos}
 use Rattle.little_endian.specs.Bytes.{littleEndian}
+use Rattle.numbers.specs.Biased.{bias}
 use Rattle.numbers.specs.Answer.{given}
-use Rattle.numbers.specs.Fraction.{IsFraction, Equal, value}
+use Rattle.numbers.specs.Fraction.{Equal, value}
 use Rattle.numbers.specs.declared.number.Number.{Number}
 use Rattle.numbers.specs.declared.number.Number.the-variants.{Finite}
+use Rattle.numbers.proofs.Laws.Scaled.{value-fraction, origin-is, finite-scaled, coarser, equal-scaled}
+use Rattle.numbers.proofs.Laws.Pairs.{equal-through}
 use Rattle.numbers.proofs.Laws.Fractions.{signed-equal}
-use Rattle.numbers.proofs.Laws.Rounded.{value-fraction}
+use Rattle.numbers.proofs.Laws.Minus.{minus-same}
 use Rattle.numbers.proofs.Laws.Tests.{leb-same, eqb-same}
-use Rattle.numbers.proofs.Laws.Value.{equal-through}
 use Rattle.codes.specs.Codes.{binary64, exponentBits, allOnes, leadingOne, split, counted, decoded, normalized, isCanonical, judgedCode, numberOf, readingOf}
 use Rattle.codes.specs.Layout.{ieeeFraction}
 use Rattle.codes.specs.declared.code.Code.{Code}
@@ -67,20 +68,15 @@ fields-finite s (suc k) r = go (eqb (suc k) 2047) (eqb r 0)
 
 -- ---- any other field has the same sign and value in both
 
--- m × 2^e is S × 2^k / 2^(l + 51), which is the value of S in a word at the exponent k + 1 - l
-scaled : (s : Bool) (S m k l : ℕ) (e : ℤ) → m * up e * 2 ^ (l + 51) ≡ S * 2 ^ k * down e → Equal (value (Finite s (minus (suc k) l) (S * 2 ^ 11))) (ieeeFraction s m e)
-unfolding value ieeeFraction
-scaled s S m k l e h =
-    let b = minus (suc k) l in
-    signed-equal s (S * 2 ^ 11 * up b) (2 ^ 63 * down b) (m * up e) (down e)
-    (eq-of-mul-eq-mul-right (2 ^ l) (pow-pos l) (S * 2 ^ 11 * up b * down e) (m * up e * (2 ^ 63 * down b))
-    (omega (
-      arith,
-      ap (λ (n : ℕ). n * down e) (minus-val (S * 2 ^ 11) (suc k) l),
-      ap (λ (n : ℕ). S * down b * down e * n) (pow-succ' 2 k),
-      ap (λ (n : ℕ). m * up e * down b * n) (pow-add 2 l 51),
-      ap (λ (n : ℕ). n * down b) h,
-    )))
+-- m × 2^e is S × 2^k / 2^(1023 + 51), which is the value of S in a word at the exponent k + 1 - 1023
+scaled : (s : Bool) (S m k : ℕ) (e : ℤ) → m * up e * 2 ^ (1023 + 51) ≡ S * 2 ^ k * down e
+    → Equal (value (Finite s (minus (suc k) 1023) (S * 2 ^ 11))) (ieeeFraction s m e)
+unfolding ieeeFraction
+scaled s S m k e h =
+    let b = suc k + (bias - 1023) in
+    let word = finite-scaled s b (S * 2 ^ 11) (minus-same (suc k) 1023 b bias (omega arith)) in
+    equal-scaled (coarser {j = k} {p = 1023 + 51} S 11 word (omega (arith, origin-is)))
+    (record { positive = down-pos e; amount = signed-equal s (m * up e) (down e) (S * 2 ^ k) (2 ^ (1023 + 51)) h })
 
 -- the code c is a number, it has the sign s, it is zero where m is, and its value is m × 2^e with that sign
 pub record IsIeee (c : Code) (s : Bool) (m : ℕ) (e : ℤ) : Type 0 where
@@ -107,7 +103,7 @@ units-ieee c k s m e number counted (sign, units) =
       number = number;
       sign = sym sign;
       zero = zero-together m (up e * 2 ^ (1023 + 51)) S (2 ^ k * down e) (mul-pos (up-pos e) (pow-pos (1023 + 51))) (mul-pos (pow-pos k) (down-pos e)) grouped;
-      equal = rw (counted, ← sign) (scaled s S m k 1023 e units);
+      equal = rw (counted, ← sign) (scaled s S m k e units);
     }
 
 -- field 0 counts as field 1 without the leading one
@@ -141,10 +137,10 @@ finite-parts (fin s m e) h = (s, m, e, refl)
 
 -- what is read of a finite word has its value
 read-equal : (bytes : List ℕ) (x : Number) (s : Bool) (m : ℕ) (e : ℤ) → readingOf binary64 bytes ≡ given x → ofBits ieee.binary64 (littleEndian bytes) ≡ fin s m e → Equal (value x) (ieeeFraction s m e)
-unfolding IsFraction ieeeFraction
+unfolding ieeeFraction
 read-equal bytes x s m e h is =
     let code = decoded binary64 (split binary64 (littleEndian bytes)) in
-    equal-through (value x) (value code) (ieeeFraction s m e) (value-fraction x) (value-fraction code) (down-pos e)
+    equal-through (value x) (value code) (ieeeFraction s m e) (value-fraction code)
     (read-value binary64 bytes x binary64-format h) (ieee-value (littleEndian bytes) s m e is .equal)
 
 -- where something is read, the word is finite and no negative zero, and what is read has its value

@@ -4,43 +4,28 @@ use mathlib.Core.Bool.{Bool, true, false, not, _&&_, Bool·beq, cond, and-eq-tru
 use Prim.Native.Nat.{ℕ, zero, suc, _+_, _-_, _*_, _/_, _%_, _^_, _<_}
 use native.Mathlib.Nat.{div-add-mod', div-lt-iff-lt-mul, mod-lt}
 use native.Mathlib.Omega.{arith}
+use borrow.Author.Needs.{needs}
 use lib.Arith.{digits-lt, digits-div, digits-mod}
-use lib.Dec.{T, leb, ltb, eqb, lit≤}
-use lib.Ieee.{minus}
-use lib.IntN.{pos}
+use lib.Dec.{leb, ltb, eqb}
 use lib.Pow.{pow-add, pow-pos}
 use Rattle.little_endian.proofs.Laws.Bytes.{byte-power}
 use Rattle.numbers.specs.Answer.{given, refused}
 use Rattle.numbers.specs.declared.number.Number.{Number}
+use Rattle.numbers.proofs.Laws.Tests.{never}
 use Rattle.codes.specs.Codes.{doubleExtended, binary64, exponentBits, allOnes, split, join, isCanonical, judgedCode}
 use Rattle.codes.specs.Layout.{IsFormat, IsCode}
 use Rattle.codes.specs.declared.code.Code.{Code}
 use Rattle.codes.specs.declared.code.Format.{Format}
 use Rattle.codes.proofs.Laws.Leading.{leading-room, leading-back, upper-below}
 
--- the constants of both formats are as those of a format are: tests that compute, and equations
-formed-by : (f : Format) → T (leb 1 (f .precision)) → T (leb (f .precision) 64) → T (leb (f .stored) (f .precision)) → T (leb (f .precision) (f .stored + 1)) → T (leb 1 (f .bias)) → T (leb (f .bias) 32767)
-    → f .stored + exponentBits f + 1 ≡ 8 * f .length → 2 ^ exponentBits f ≡ 2 * f .bias + 2 → f .lowest ≡ minus 1 (f .bias) → f .highest ≡ pos (f .bias) → IsFormat f
-formed-by f some-bits word-bits stored-most stored-least some-bias small-bias layout fields lowest highest = record {
-  some-bits = lit≤ some-bits;
-  word-bits = lit≤ word-bits;
-  stored-most = lit≤ stored-most;
-  stored-least = lit≤ stored-least;
-  layout = layout;
-  fields = fields;
-  some-bias = lit≤ some-bias;
-  small-bias = lit≤ small-bias;
-  lowest-is = lowest;
-  highest-is = highest;
-}
-
+-- the constants of both formats are as those of a format are
 pub double-extended-format : IsFormat doubleExtended
 unfolding doubleExtended exponentBits
-double-extended-format = formed-by doubleExtended tt tt tt tt tt tt refl refl refl refl
+double-extended-format = search needs
 
 pub binary64-format : IsFormat binary64
 unfolding binary64 exponentBits
-binary64-format = formed-by binary64 tt tt tt tt tt tt refl refl refl refl
+binary64-format = search needs
 
 -- a code has 1 bit of sign above the exponent's bits and the stored ones
 all-bits : (f : Format) → IsFormat f → 256 ^ f .length ≡ 2 * 2 ^ exponentBits f * 2 ^ f .stored
@@ -67,7 +52,7 @@ pub split-code : (f : Format) (w : ℕ) → IsFormat f → IsCode f (split f w)
 unfolding split
 split-code f w formed = record {
   field-fits = mod-lt (w / 2 ^ f .stored) (pow-pos (exponentBits f));
-  significand-fits = leading-room f (w / 2 ^ f .stored % 2 ^ exponentBits f) (w % 2 ^ f .stored) formed (mod-lt w (pow-pos (f .stored))) .0;
+  significand-fits = leading-room f formed (w / 2 ^ f .stored % 2 ^ exponentBits f) (w % 2 ^ f .stored) (mod-lt w (pow-pos (f .stored))) .0;
 }
 
 pub join-below : (f : Format) (c : Code) → IsFormat f → IsCode f c → join f c < 256 ^ f .length
@@ -84,7 +69,7 @@ join-split f w formed h =
     let E = 2 ^ exponentBits f in
     let upper : w / S < 2 * E = div-lt-iff-lt-mul (pow-pos (f .stored)) .1 (rw (all-bits f formed) at h) in
     rw (
-      leading-room f (w / S % E) (w % S) formed (mod-lt w (pow-pos (f .stored))) .1,
+      leading-room f formed (w / S % E) (w % S) (mod-lt w (pow-pos (f .stored))) .1,
       sign-bit (w / S / E) (div-lt-iff-lt-mul (pow-pos (exponentBits f)) .1 upper),
       div-add-mod' (w / S) E,
     ) (div-add-mod' w S)
@@ -126,7 +111,7 @@ split-join f c formed fits canonical =
       digits-div sign (fits .field-fits),
       digits-mod sign (fits .field-fits),
       sign-back (c .negative),
-      leading-back f (c .field) (c .significand) formed (fits .significand-fits) (canonical-parts f c canonical .0),
+      leading-back f formed (c .field) (c .significand) (fits .significand-fits) (canonical-parts f c canonical .0),
     )
 
 -- ---- the judgement of a code
@@ -137,10 +122,6 @@ unfolding allOnes
 all-ones f formed = omega (arith, formed .fields)
 
 -- a number is given where the field is not all ones and the code is canonical, and a refusal does not depend on the number
-pub judged-number : (f : Format) (c : Code) (x : Number) → eqb (c .field) (allOnes f) ≡ false → isCanonical f c ≡ true → judgedCode f c x ≡ given x
-unfolding judgedCode
-judged-number f c x number canonical = rw (number, canonical)
-
 pub judged-given : (f : Format) (c : Code) (x y : Number) → judgedCode f c y ≡ given x → (eqb (c .field) (allOnes f) ≡ false) × (isCanonical f c ≡ true) × (y ≡ x)
 unfolding judgedCode
 judged-given f c x y h = go (eqb (c .field) (allOnes f)) (isCanonical f c) refl refl h
@@ -148,8 +129,8 @@ judged-given f c x y h = go (eqb (c .field) (allOnes f)) (isCanonical f c) refl 
     go : (a k : Bool) → eqb (c .field) (allOnes f) ≡ a → isCanonical f c ≡ k → cond a (refused 10) (cond (not k) (refused 11) (given y)) ≡ given x
         → (eqb (c .field) (allOnes f) ≡ false) × (isCanonical f c ≡ true) × (y ≡ x)
     go false true a k m = (a, k, cc)
-    go false false a k m = absurd (let z : _≡_ {A = ℕ} 0 1 = cc in omega arith)
-    go true k a e m = absurd (let z : _≡_ {A = ℕ} 0 1 = cc in omega arith)
+    go false false a k m = never cc
+    go true k a e m = never cc
 
 pub judged-refused : (f : Format) (c : Code) (x y : Number) (row : ℕ) → judgedCode f c x ≡ refused row → judgedCode f c y ≡ refused row
 unfolding judgedCode
@@ -158,4 +139,4 @@ judged-refused f c x y row h = go (eqb (c .field) (allOnes f)) (isCanonical f c)
     go : (a k : Bool) → cond a (refused 10) (cond (not k) (refused 11) (given x)) ≡ refused row → cond a (refused 10) (cond (not k) (refused 11) (given y)) ≡ refused row
     go true k m = m
     go false false m = m
-    go false true m = absurd (let z : _≡_ {A = ℕ} 0 1 = cc in omega arith)
+    go false true m = never cc

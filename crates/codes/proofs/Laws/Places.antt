@@ -1,43 +1,47 @@
 -- The field of an exponent in a format, and how far the exponent lies below the lowest one.
-use mathlib.Core.Path.{_≡_, sym, ap, _∙_}
-use mathlib.Core.Bool.{true, false}
-use Prim.Native.Nat.{ℕ, _+_, _-_, _≤_, _<_, zero-le}
+use mathlib.Core.Path.{_≡_, refl, _∙_}
+use mathlib.Core.Bool.{Bool, true, false, cond}
+use Prim.Native.Nat.{ℕ, zero, suc, _+_, _-_}
 use native.Mathlib.Nat.{add-zero}
 use native.Mathlib.Omega.{arith}
 use lib.Dec.{leb}
 use lib.Ieee.{minus}
-use lib.IntN.{ℤ, pos}
+use lib.IntN.{natAbs}
 use lib.Signed.{leZ}
-use borrow.Author.Tests.{le-leb, lt-leb}
-use Rattle.numbers.proofs.Laws.Bias.{minus-down, minus-plus, minus-minus, minus-order}
-use Rattle.codes.specs.Codes.{fieldOf, belowNormal}
+use borrow.Author.Tests.{leb-true, leb-false, ne-eqb}
+use Rattle.numbers.specs.Biased.{bias}
+use Rattle.numbers.proofs.Laws.Minus.{minus-split, minus-plus, minus-minus, minus-order}
+use Rattle.numbers.proofs.Laws.Splits.{pos-split, order-test, abs-split}
+use Rattle.codes.specs.Codes.{counted, fieldOf, belowNormal}
 use Rattle.codes.specs.Layout.{IsFormat}
 use Rattle.codes.specs.declared.code.Format.{Format}
 
--- the exponent b - 65,535 is that of a normal number, or lies below
+-- field 0 counts as field 1
+pub counted-is : (field : ℕ) → counted field ≡ field + (1 - field)
+counted-is zero = refl
+counted-is (suc n) = rw (ne-eqb (suc n) 0 (λ (z : suc n ≡ 0). omega arith)) (omega arith)
+
+-- The exponent b − 65,535 is that of a normal number, or lies below; the differences of natural numbers say which. 65,536 is the bias and 1, for field 1.
 module _ (f : Format) (b : ℕ) (formed : IsFormat f) where
-  order : leZ (f .lowest) (minus b 65535) ≡ leb (1 + 65535) (b + f .bias)
-  order = ap (λ (e : ℤ). leZ e (minus b 65535)) (formed .lowest-is) ∙ minus-order 1 (f .bias) b 65535
+  pub order : leZ (f .lowest) (minus b bias) ≡ leb 65536 (b + f .bias)
+  order = rw (formed .lowest-is) (minus-order 1 (f .bias) b bias)
 
-  pub place-normal : 65536 ≤ b + f .bias → (fieldOf f (minus b 65535) ≡ b + f .bias - 65535) × (belowNormal f (minus b 65535) ≡ 0)
-  unfolding fieldOf belowNormal
-  place-normal h =
-      let t : leZ (f .lowest) (minus b 65535) ≡ true = order ∙ le-leb 65536 (b + f .bias) h in (
-        rw (t, minus-plus b 65535 (f .bias), minus-down (b + f .bias) 65535 (omega arith)),
-        rw t,
-      )
+  pub field-is : fieldOf f (minus b bias) ≡ b + f .bias - bias
+  unfolding fieldOf
+  field-is = rw (order, minus-plus b bias (f .bias)) (go (leb 65536 (b + f .bias)) refl)
+    where
+      go : (t : Bool) → leb 65536 (b + f .bias) ≡ t → cond t (natAbs (minus (b + f .bias) bias)) 0 ≡ b + f .bias - bias
+      go true h = omega (arith, leb-true 65536 (b + f .bias) h, abs-split (minus-split (b + f .bias) bias))
+      go false h = omega (arith, leb-false 65536 (b + f .bias) h)
 
-  pub place-below : b + f .bias < 65536 → (fieldOf f (minus b 65535) ≡ 0) × (belowNormal f (minus b 65535) ≡ 65536 - (b + f .bias))
-  unfolding fieldOf belowNormal
-  place-below h =
-      let t : leZ (f .lowest) (minus b 65535) ≡ false = order ∙ lt-leb 65536 (b + f .bias) h in (
-        rw t,
-        rw (t, formed .lowest-is, minus-minus 1 (f .bias) b 65535, minus-down (1 + 65535) (f .bias + b) (omega arith)) (omega arith),
-      )
+  pub below-is : belowNormal f (minus b bias) ≡ 65536 - (b + f .bias)
+  unfolding belowNormal
+  below-is = rw (order, formed .lowest-is, minus-minus 1 (f .bias) b bias) (go (leb 65536 (b + f .bias)) refl)
+    where
+      go : (t : Bool) → leb 65536 (b + f .bias) ≡ t → cond t 0 (natAbs (minus 65536 (f .bias + b))) ≡ 65536 - (b + f .bias)
+      go true h = omega (arith, leb-true 65536 (b + f .bias) h)
+      go false h = omega (arith, leb-false 65536 (b + f .bias) h, abs-split (minus-split 65536 (f .bias + b)))
 
--- is the exponent b - 65,535 not above the highest one?
-pub not-above : (f : Format) (b : ℕ) → IsFormat f → leZ (minus b 65535) (f .highest) ≡ leb b (f .bias + 65535)
-not-above f b formed =
-    ap (λ (e : ℤ). leZ (minus b 65535) e) (formed .highest-is ∙ sym (minus-down (f .bias) 0 zero-le ∙ ap pos (omega arith)))
-    ∙ minus-order b 65535 (f .bias) 0
-    ∙ rw (add-zero b)
+  -- is the exponent not above the highest one?
+  pub not-above : leZ (minus b bias) (f .highest) ≡ leb b (f .bias + bias)
+  not-above = rw (formed .highest-is) (order-test (minus-split b bias) (pos-split (f .bias)) ∙ rw (add-zero b))

@@ -17,7 +17,7 @@ pub sum-order : {xs ys : List Fraction} → Reordered xs ys → exactSum xs ≡ 
 unfolding exactSum
 sum-order (same xs) = refl
 sum-order (after x r) = ap (sum x) (sum-order r)
-sum-order (swapped x y xs) = sym (sum-grouped x y (exactSum xs)) ∙ ap (λ (z : Fraction). sum z (exactSum xs)) (sum-swap x y) ∙ sum-grouped y x (exactSum xs)
+sum-order (swapped x y xs) = rw (← sum-grouped x y (exactSum xs), sum-swap x y) (sum-grouped y x (exactSum xs))
 sum-order (then r s) = sum-order r ∙ sum-order s
 
 -- the sum of one, and of two lists

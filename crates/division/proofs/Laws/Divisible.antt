@@ -2,20 +2,18 @@
 -- are those of every operation.
 use mathlib.Core.Path.{_≡_, refl, sym, ap, _∙_}
 use mathlib.Core.Bool.{Bool, true, false, not, cond}
-use Prim.Native.Nat.{ℕ, zero, suc, _≤_, _<_}
-use native.Mathlib.Omega.{arith}
+use Prim.Native.Nat.{ℕ, _≤_, _<_}
 use borrow.Author.Tests.{ltb-false}
 use lib.Dec.{ltb}
 use Rattle.numbers.specs.Answer.{Outcome, given, refused, rounded, unlessUnknown, unlessUnfit}
 use Rattle.numbers.specs.Fraction.{value, quotient}
 use Rattle.numbers.specs.Number.{isAdmissible}
-use Rattle.numbers.specs.Rounding.{byMode, taskOf, isPrecision}
+use Rattle.numbers.specs.Rounding.{taskOf, isPrecision}
 use Rattle.numbers.specs.declared.number.Number.{Number}
 use Rattle.numbers.specs.declared.number.Number.the-variants.{Zero}
-use Rattle.numbers.specs.declared.task.Mode.{Mode}
-use Rattle.numbers.specs.declared.task.Mode.the-variants.{Trunc, Away, Near, Sticky, Up, Down}
 use Rattle.numbers.specs.declared.task.Task.{Task}
 use Rattle.numbers.proofs.Laws.Refusals as rows
+use Rattle.numbers.proofs.Laws.Tests.{never}
 use Rattle.division.specs.Quotient.{isZero, unlessIndivisible, quotientOf}
 use Rattle.division.specs.Judgement.{IsTaken, answeredBy, IsTask}
 use Rattle.division.specs.declared.judgement.Judgement.{Judgement}
@@ -61,29 +59,18 @@ pub quotient-taken : {p d : Number} {code n : ℕ} → IsTaken p d code n → qu
 unfolding quotientOf
 quotient-taken {p} {d} {code} {n} is = sym (taken is (rounded (taskOf code n) (quotient (value p) (value d))))
 
--- the mode of a code from 0 to 5
-pub mode-of : (code n : ℕ) → code ≤ 5 → (mode : Mode) × (taskOf code n ≡ byMode mode n)
-unfolding taskOf
-mode-of zero n h = (Trunc, refl)
-mode-of (suc zero) n h = (Away, refl)
-mode-of (suc (suc zero)) n h = (Near, refl)
-mode-of (suc (suc (suc zero))) n h = (Sticky, refl)
-mode-of (suc (suc (suc (suc zero)))) n h = (Up, refl)
-mode-of (suc (suc (suc (suc (suc zero))))) n h = (Down, refl)
-mode-of (suc (suc (suc (suc (suc (suc k)))))) n h = absurd (omega arith)
-
 -- what is judged, at the case that a match has found
 pub judged-as : (p d : Number) (code n : ℕ) (r j : Judgement) → ((x : Outcome) → answeredBy r x ≡ unlessIndivisible p d code n x) → r ≡ j
     → (x : Outcome) → answeredBy j x ≡ unlessIndivisible p d code n x
 judged-as p d code n r j h e x = ap (λ (k : Judgement). answeredBy k x) (sym e) ∙ h x
 
--- where nothing is made of any answer, no row applies
+-- where every answer is left as it is, no row applies
 pub divisible-taken : (p d : Number) (code n : ℕ) → ((x : Outcome) → x ≡ unlessIndivisible p d code n x) → IsTaken p d code n
 unfolding unlessIndivisible unlessUnknown unlessUnfit
 divisible-taken p d code n h = go (ltb 5 code) (isPrecision n) (isAdmissible p) (isAdmissible d) (isZero d) refl refl refl refl refl (h (given Zero))
   where
     refused-given : (k : ℕ) → given Zero ≡ refused k → ⊥
-    refused-given k e = let z : _≡_ {A = ℕ} 0 1 = cc in omega arith
+    refused-given k e = never cc
 
     go : (high precise first second none : Bool) → ltb 5 code ≡ high → isPrecision n ≡ precise → isAdmissible p ≡ first → isAdmissible d ≡ second → isZero d ≡ none
         → given Zero ≡ cond high (refused 1) (cond (not precise) (refused 2) (cond (not first) (refused 3) (cond (not second) (refused 4) (cond none (refused 5) (given Zero)))))

@@ -9,19 +9,19 @@ use lib.Ieee.{unlike}
 use lib.IntN.{natAbs}
 use lib.Pow.{pow-add, pow-pos}
 use lib.Signed.{leZ-yes}
-use Rattle.numbers.specs.Fraction.{Fraction, IsFraction, Equal, AtMost, Below, signed, quotient, magnitude}
-use Rattle.numbers.specs.Rounding.{isNegative}
-use Rattle.numbers.proofs.Laws.Fractions.{fraction, quotient-fraction, quotient-signed, quotient-equal}
+use Rattle.numbers.specs.Biased.{origin}
+use Rattle.numbers.specs.Fraction.{Fraction, IsFraction, Equal, AtMost, Below, signed, quotient, magnitude, isNegative, scaled, IsScaled}
+use Rattle.numbers.proofs.Laws.Pairs.{fraction}
+use Rattle.numbers.proofs.Laws.Fractions.{quotient-fraction, quotient-signed, quotient-equal, equal-magnitudes, equal-signs}
 use Rattle.numbers.proofs.Laws.Signs.{abs-signed, negative-signed}
-use Rattle.numbers.proofs.Laws.Value.{equal-magnitudes, equal-signs}
-use Rattle.division.proofs.Laws.Scaled.{scaled, IsScaled, scaled-fraction, origin, scaled-size, scaled-some, below-scaled, reaches-scaled}
+use Rattle.numbers.proofs.Laws.Scaled.{scaled-fraction, scaled-size, scaled-some, below-scaled, reaches-scaled}
 
 module _ {x d : Fraction} {s t : Bool} {M D i b : ℕ} (D0 : 0 < D) (divisor : IsScaled d s D b origin) (amount : IsScaled x t M i (origin + 64)) where
   ratio : Fraction
   ratio = fraction (signed (unlike t s) (M * 2 ^ i * 2 ^ origin)) (2 ^ (origin + 64) * (D * 2 ^ b))
 
   ratio-fraction : IsFraction ratio
-  unfolding IsFraction ratio
+  unfolding ratio
   ratio-fraction = mul-pos (pow-pos (origin + 64)) (mul-pos D0 (pow-pos b))
 
   pub positive : IsFraction (quotient x d)
@@ -46,7 +46,6 @@ module _ {x d : Fraction} {s t : Bool} {M D i b : ℕ} (D0 : 0 < D) (divisor : I
 
   -- it is below one unit where M is below D
   pub quotient-below : M < D → Below (magnitude (quotient x d)) (scaled false 1 i (b + 64))
-  unfolding IsFraction
   quotient-below h =
       below-scaled (quotient x d) 1 i (b + 64) .1 (lt-of-mul-lt-mul-right D (rw quotient-size (less (2 ^ i) (quotient x d .denominator) (pow-pos i) positive)))
     where

@@ -2,6 +2,7 @@
 use mathlib.Core.Path.{_≡_, refl}
 use Prim.Native.Nat.{ℕ, _*_, _^_, _≤_, _<_}
 use lib.Ieee.{minus}
+use Rattle.numbers.specs.Biased.{bias}
 use Rattle.numbers.specs.declared.number.Number.{Number}
 use Rattle.numbers.specs.declared.number.Number.the-variants.{Zero, Finite}
 
@@ -21,14 +22,21 @@ pub half-cube : half * half * half ≡ 2 ^ 96
 unfolding half
 half-cube = refl
 
--- a biased exponent from c to the highest admissible one, 81,919, and a significand; 49,089 is the lowest admissible one
+-- the biased exponents of admissible numbers: 65,535 − 16,446 and 65,535 + 16,384
+abbrev pub lowestAdmissible : ℕ
+lowestAdmissible = 49089
+
+abbrev pub highestAdmissible : ℕ
+highestAdmissible = 81919
+
+-- a biased exponent from c to the highest admissible one, and a significand
 pub record InRange (c b S : ℕ) : Type 0 where
   pub lowest : c ≤ b
-  pub highest : b ≤ 81919
+  pub highest : b ≤ highestAdmissible
   pub top : 2 ^ 63 ≤ S
   pub word : S < 2 ^ 64
 
--- zero, or a number whose biased exponent is c at least
-abbrev pub IsRemainder : ℕ → Number → Type 0
-IsRemainder c Zero = Unit {0}
-IsRemainder c (Finite s e S) = (a : ℕ) × (e ≡ minus a 65535) × InRange c a S
+-- zero, or a number in that range: an operand, or a remainder
+abbrev pub IsBounded : ℕ → Number → Type 0
+IsBounded c Zero = Unit {0}
+IsBounded c (Finite s e S) = (a : ℕ) × (e ≡ minus a bias) × InRange c a S

@@ -1,44 +1,46 @@
 -- The quotient of two admissible numbers lies in the cell of its digits, and so the rounding of that cell is its rounding.
 use mathlib.Core.Path.{_≡_, refl, sym, subst, ap, ap₂, _∙_}
-use mathlib.Core.Bool.{Bool, true, false, cond, false≢true}
+use mathlib.Core.Bool.{Bool, true, false, false≢true}
 use Prim.Native.Nat.{ℕ, suc, _+_, _-_, _*_, _/_, _%_, _^_, _≤_, _<_}
 use native.Mathlib.Nat.{div-add-mod', mod-lt, eq-of-mul-eq-mul-right, le-of-lt, lt-of-mul-lt-mul-right, mul-le-mul-left, mul-le-mul-right, mul-lt-mul-of-pos-right, mul-pos}
 use native.Mathlib.Omega.{arith}
 use borrow.Author.Tests.{ltb-true, ltb-false}
-use lib.Dec.{ltb, eqb}
+use lib.Dec.{ltb}
 use lib.Ieee.{unlike, minus}
-use lib.IntN.{ℤ, pos, natAbs, sucℤ, _-ℤ_}
+use lib.IntN.{ℤ, pos, natAbs, _-ℤ_}
 use lib.Pow.{pow-add, pow-pos, pow-mono}
 use mir.Facts.{toZ-ofZ}
 use mir.Syntax.{w32}
 use mir.Val.{SFits, toZ, ofZ}
-use Rattle.numbers.specs.Answer.{rounded, checked}
+use Rattle.numbers.specs.Biased.{bias, origin}
+use Rattle.numbers.specs.Answer.{rounded}
 use Rattle.numbers.specs.Cell.{endOf, cellRounding}
-use Rattle.numbers.specs.Fraction.{Fraction, IsFraction, value, quotient, signed}
+use Rattle.numbers.specs.Fraction.{Fraction, IsFraction, value, quotient, signed, IsScaled}
 use Rattle.numbers.specs.Grid.{InCell}
-use Rattle.numbers.specs.Number.{isWorkingExponent, isAdmissible}
-use Rattle.numbers.specs.Rounding.{placed, byMode, precisionOf}
+use Rattle.numbers.specs.Number.{isAdmissible}
+use Rattle.numbers.specs.Rounding.{byMode, precisionOf}
 use Rattle.numbers.specs.declared.number.Number.{Number}
 use Rattle.numbers.specs.declared.number.Number.the-variants.{Zero, Finite}
 use Rattle.numbers.specs.declared.task.Mode.{Mode}
 use Rattle.numbers.specs.declared.task.Task.{Task}
-use Rattle.numbers.proofs.Laws.Bias.{minus-minus, minus-less, working}
-use Rattle.numbers.proofs.Laws.Cell.{round-cell}
-use Rattle.numbers.proofs.Laws.Exponent.{minus-same, suc-minus}
+use Rattle.numbers.proofs.Laws.Minus.{minus-same, suc-minus, minus-minus, minus-less}
+use Rattle.numbers.proofs.Laws.Bias.{working}
+use Rattle.numbers.proofs.Laws.Cell.{above-zero, exponent-cell}
 use Rattle.numbers.proofs.Laws.Fractions.{quotient-zero}
 use Rattle.numbers.proofs.Laws.Powers.{top-bit, below-top}
 use Rattle.numbers.proofs.Laws.Refusals.{range-precision}
-use Rattle.numbers.proofs.Laws.Round.{grid-rounds, scaled-binary}
-use Rattle.numbers.proofs.Laws.Signed.{minus-fits}
+use Rattle.numbers.proofs.Laws.EveryValue.{grid-rounds, scaled-binary}
+use Rattle.numbers.proofs.Laws.SignedWords.{minus-fits}
 use Rattle.numbers.proofs.Laws.Signs.{signed-abs}
+use Rattle.numbers.proofs.Laws.Tasks.{given-rounded}
 use Rattle.numbers.proofs.Laws.Value.{rounded-zero}
+use Rattle.numbers.proofs.Laws.Scaled.{finite-scaled, zero-value, moved}
 use Rattle.division.specs.Quotient.{isZero}
 use Rattle.division.specs.Judgement.{IsTask}
 use Rattle.division.specs.Words.{IsSignificand, IsQuotient, IsGiven}
 use Rattle.division.proofs.Laws.Admissible.{admissible-parts}
 use Rattle.division.proofs.Laws.Quotients.{positive, quotient-size, quotient-sign}
-use Rattle.division.proofs.Laws.Scaled.{IsScaled, origin, finite-scaled, zero-value, moved}
-use Rattle.division.proofs.Laws.Range.{IsRemainder}
+use Rattle.division.proofs.Laws.Range.{IsBounded, lowestAdmissible}
 
 -- over plain numbers: N × D is (Q D + R) × E, so N lies in the cell Q of the grid E
 cell-of-digits : (N E D Q R : ℕ) → 0 < E → R < D → N * D ≡ (Q * D + R) * E → InCell (ltb 0 R) N Q E
@@ -63,21 +65,12 @@ enough k v P D Q R v0 top word h r =
 few : (k v P D Q R : ℕ) → k ≤ D → P < 2 * k → P * (2 * v) ≡ Q * D + R → 0 < v → Q < 4 * v
 few k v P D Q R top word h v0 = lt-of-mul-lt-mul-right k (omega (arith, h, mul-le-mul-left Q top, mul-lt-mul-of-pos-right {k = 2 * v} word (omega arith)))
 
--- a number whose exponent is working, with or without a carry, is given
-placed-given : (s : Bool) (e : ℤ) (n q : ℕ) → isWorkingExponent e ≡ true → isWorkingExponent (sucℤ e) ≡ true → IsGiven (checked (placed s e n q))
-unfolding placed checked IsGiven
-placed-given s e n q h k = go (eqb q (2 ^ n))
-  where
-    go : (carry : Bool) → IsGiven (checked (cond carry (Finite s (sucℤ e) (2 ^ 63)) (Finite s e (q * 2 ^ (64 - n)))))
-    go true = rw k tt
-    go false = rw h tt
-
 module _ (p d : Number) (t s : Bool) (e f : ℤ) (P D : ℕ) (p-is : p ≡ Finite t e P) (d-is : d ≡ Finite s f D)
     (p-fit : isAdmissible p ≡ true) (d-fit : isAdmissible d ≡ true) where
-  pub p-parts : IsRemainder 49089 (Finite t e P)
+  pub p-parts : IsBounded lowestAdmissible (Finite t e P)
   p-parts = admissible-parts (Finite t e P) (subst (λ (x : Number). isAdmissible x ≡ true) p-is p-fit)
 
-  pub d-parts : IsRemainder 49089 (Finite s f D)
+  pub d-parts : IsBounded lowestAdmissible (Finite s f D)
   d-parts = admissible-parts (Finite s f D) (subst (λ (x : Number). isAdmissible x ≡ true) d-is d-fit)
 
   abbrev a : ℕ
@@ -94,8 +87,8 @@ module _ (p d : Number) (t s : Bool) (e f : ℤ) (P D : ℕ) (p-is : p ≡ Finit
     difference-is : toZ w32 (ofZ w32 e) -ℤ toZ w32 (ofZ w32 f) ≡ minus a b
     difference-is =
         ap₂ (λ (y z : ℤ). y -ℤ z) (toZ-ofZ p-fits ∙ p-parts .1) (toZ-ofZ d-fits ∙ d-parts .1)
-        ∙ minus-minus a 65535 b 65535
-        ∙ minus-same (a + 65535) (65535 + b) a b (omega arith)
+        ∙ minus-minus a bias b bias
+        ∙ minus-same (a + bias) (bias + b) a b (omega arith)
 
     pub difference-fits : SFits w32 (toZ w32 (ofZ w32 e) -ℤ toZ w32 (ofZ w32 f))
     difference-fits = rw difference-is (minus-fits a b (omega (arith, p-parts .2 .highest)) (omega (arith, d-parts .2 .highest)))
@@ -130,7 +123,6 @@ module _ (p d : Number) (t s : Bool) (e f : ℤ) (P D : ℕ) (p-is : p ≡ Finit
 
   module _ (Q R : ℕ) (digits : IsQuotient (P * 2 ^ 81) D Q R) where
     cell : InCell (ltb 0 R) (natAbs (x .numerator) * 2 ^ (b + 81)) Q (x .denominator * 2 ^ a)
-    unfolding IsFraction
     cell =
         cell-of-digits (natAbs (x .numerator) * 2 ^ (b + 81)) (x .denominator * 2 ^ a) D Q R (mul-pos x0 (pow-pos a)) (digits .below)
         (sized (natAbs (x .numerator)) (x .denominator) (2 ^ a) (2 ^ b) (2 ^ (a + 64)) (2 ^ (b + 64)) (2 ^ (b + 81)) (pow-add 2 a 64) (pow-add 2 b 64) (pow-add 2 b 81)
@@ -153,7 +145,7 @@ module _ (p d : Number) (t s : Bool) (e f : ℤ) (P D : ℕ) (p-is : p ≡ Finit
 
     -- in every mode the quotient is given: its exponent is far inside the working range
     finite-given : (mode : Mode) (n : ℕ) → 1 ≤ n → n ≤ 64 → IsGiven (rounded (byMode mode n) x)
-    unfolding rounded
+    unfolding IsGiven
     finite-given mode n n0 n1 =
         let least = enough (2 ^ 63) (2 ^ 80) P D Q R (pow-pos 80) (p-parts .2 .top) (d-parts .2 .word) (digits .parts) (digits .below) in
         let most = few (2 ^ 63) (2 ^ 80) P D Q R (d-parts .2 .top) (p-parts .2 .word) (digits .parts) (pow-pos 80) in
@@ -162,9 +154,11 @@ module _ (p d : Number) (t s : Bool) (e f : ℤ) (P D : ℕ) (p-is : p ≡ Finit
         let high : bit .0 ≤ 81 = below-top (bit .0) 81 Q (bit .1) most in
         let i = bit .0 + a in
         let o = b + 81 in
-        rw (round-cell x (ltb 0 R) a (b + 81) Q (bit .0) n x0 n0 (omega arith) (bit .1) (bit .2) cell mode)
-        (placed-given _ (minus i o) n _ (working i o (omega (arith, d-parts .2 .highest, p-parts .2 .lowest)) (omega (arith, p-parts .2 .highest, d-parts .2 .lowest)))
-        (rw (suc-minus i o) (working (suc i) o (omega (arith, d-parts .2 .highest, p-parts .2 .lowest)) (omega (arith, p-parts .2 .highest, d-parts .2 .lowest)))))
+        let is = exponent-cell (ltb 0 R) (natAbs (x .numerator)) (x .denominator) a o Q (bit .0) n x0 n0 (omega arith) (bit .1) (bit .2) cell in
+        let some = above-zero (ltb 0 R) (natAbs (x .numerator)) (x .denominator) a o Q (bit .0) n x0 n0 (omega arith) (bit .1) (bit .2) cell in
+        let p-range = p-parts .2 in
+        let d-range = d-parts .2 in
+        rw (given-rounded mode n x x0 n0 some (rw is (working i o (omega arith) (omega arith))) (rw (is, suc-minus i o) (working (suc i) o (omega arith) (omega arith)))) tt
 
 pub quotient-given : (p d : Number) → isAdmissible p ≡ true → isAdmissible d ≡ true → isZero d ≡ false → (mode : Mode) (n : ℕ) → 1 ≤ n → n ≤ 64
     → IsGiven (rounded (byMode mode n) (quotient (value p) (value d)))

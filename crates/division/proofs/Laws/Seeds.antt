@@ -7,8 +7,8 @@ use native.Mathlib.Omega.{arith}
 use lib.Dec.{leb, ltb, lit<}
 use borrow.Author.Tests.{leb-true, ltb-true}
 use Rattle.numbers.proofs.Laws.Ratio.{gap}
+use Rattle.numbers.proofs.Laws.Table.{every, every-at}
 use Rattle.division.specs.Seed.{nearest, entryOf, indexOf}
-use Rattle.division.proofs.Laws.Table.{every, every-at}
 
 -- The entry T at k has eight bits, and T × D is near enough to 2^71 at both ends, 128 + k and 129 + k times 2^56, of the significands D that k stands for.
 isClose : ℕ → ℕ → Bool

@@ -1,13 +1,15 @@
--- Exponents as words of 32 bits: each way undoes the other.
+-- Exponents as words of 32 bits: each way undoes the other. And kinds are small.
+use mathlib.Core.Bool.{Bool, true, false}
 use mathlib.Core.Path.{_≡_, ap, _∙_}
 use Prim.Native.Nat.{ℕ, suc, _-_, _^_, _≤_, _<_}
 use native.Mathlib.Decide.{decLe}
 use native.Mathlib.Nat.{lt-of-not-le}
 use native.Mathlib.Omega.{arith}
+use lib.Dec.{lit≤}
 use lib.IntN.{ℤ, pos, negsuc}
 use lib.Signed.{mag}
 use borrow.Author.Tests.{lt-ltb, le-ltb, lt-leb}
-use Rattle.export.specs.Layout.{wordOf, exponentIn}
+use Rattle.export.specs.Layout.{wordOf, exponentIn, kindOf}
 
 -- a word below 2^31 is the exponent, and from there on it is negative
 pub exponent-low : (w : ℕ) → w < 2 ^ 31 → exponentIn w ≡ pos w
@@ -38,3 +40,7 @@ pub word-below : (e : ℤ) → mag e < 2 ^ 31 → wordOf e < 2 ^ 32
 unfolding wordOf
 word-below (pos n) h = omega arith
 word-below (negsuc n) h = omega arith
+
+pub kind-most : (negative : Bool) → kindOf negative ≤ 2
+kind-most true = lit≤ tt
+kind-most false = lit≤ tt

@@ -1,14 +1,14 @@
 -- Sixteen bytes as two words of eight: read, written, and where the fields of a number stand in them.
 use mathlib.Core.Path.{_≡_, sym, ap, ap₂, _∙_}
-use mathlib.Core.List.{List, [], _∷_, _++_, append-nil}
+use mathlib.Core.List.{List, [], _∷_, _++_}
 use Prim.Native.Nat.{ℕ, suc, _+_, _-_, _*_, _/_, _%_, _^_, _<_}
 use native.Mathlib.Nat.{le-of-eq, div-div-eq-div-mul}
 use native.Mathlib.Omega.{arith}
 use lib.Dec.{lit≤}
-use lib.ListN.{length, getD, take, drop, length-append, length-drop, take-append-drop, drop-of-length-le}
-use lib.Seq.{length-take-le, take-all, take-at, drop-cons, drop-drop, sets, sets-eq}
+use lib.ListN.{length, getD, take, drop, length-append, drop-of-length-le}
+use lib.Seq.{drop-cons, drop-drop, sets, sets-eq}
 use Rattle.little_endian.specs.Bytes.{littleEndian, bytesOf, IsBytes}
-use Rattle.little_endian.proofs.Laws.Bytes.{little-endian-below, little-endian-append, little-endian-bytes, bytes-little-endian, bytes-length, bytes-are, bytes-take, bytes-drop, joined-bytes}
+use Rattle.little_endian.proofs.Laws.Bytes.{little-endian-below, little-endian-append, little-endian-bytes, bytes-little-endian, bytes-length, bytes-are, bytes-take, bytes-drop, joined-bytes, rest-all, first-length, rest-length, whole}
 
 -- ---- a word in eight bytes
 
@@ -58,15 +58,6 @@ eight-written bytes w h =
 
 -- ---- two words in sixteen bytes
 
--- each part is written over its own bytes
-pub two-written : (all first rest bytes : List ℕ) (low high : ℕ) → all ≡ first ++ drop 8 bytes → first ≡ bytesOf 8 low → rest ≡ bytesOf 8 high
-    → take 8 all ++ (rest ++ drop (length all - 8) (drop 8 all)) ≡ bytesOf 8 low ++ bytesOf 8 high
-two-written all first rest bytes low high ea ef er =
-    let long : length first ≡ 8 = ap length ef ∙ bytes-length 8 low in
-    let front : take 8 all ≡ bytesOf 8 low = rw ea (take-at first (drop 8 bytes) 8 long) ∙ ef in
-    let none : drop (length all - 8) (drop 8 all) ≡ [] = drop-of-length-le (drop 8 all) (le-of-eq (length-drop 8 all)) in
-    rw (front, er, none, append-nil)
-
 -- the word of an exponent and above it the kind are their bytes, one after the other
 pub upper-bytes : (w k : ℕ) → w < 2 ^ 32 → k < 2 ^ 32 → bytesOf 8 (k * 2 ^ 32 + w) ≡ bytesOf 4 w ++ bytesOf 4 k
 upper-bytes w k hw hk =
@@ -77,28 +68,19 @@ upper-bytes w k hw hk =
 
 -- the fields in sixteen bytes
 module _ (bytes : List ℕ) (are : IsBytes bytes) (count : length bytes ≡ 16) where
-  pub first-eight : length (take 8 bytes) ≡ 8
-  first-eight = length-take-le 8 bytes (omega arith)
+  upper-eight : length (drop 8 bytes) ≡ 8
+  upper-eight = rest-length 8 16 (lit≤ tt) bytes count
 
   pub middle-four : length (take 4 (drop 8 bytes)) ≡ 4
-  middle-four = length-take-le 4 (drop 8 bytes) (rw (length-drop 8 bytes, count) (lit≤ tt))
-
-  pub last-four : length (drop 12 bytes) ≡ 4
-  last-four = length-drop 12 bytes ∙ ap (λ (n : ℕ). n - 12) count
+  middle-four = first-length 4 8 (lit≤ tt) (drop 8 bytes) upper-eight
 
   pub middle-below : littleEndian (take 4 (drop 8 bytes)) < 2 ^ 32
   middle-below = rw middle-four at (little-endian-below (take 4 (drop 8 bytes)) (bytes-take 4 (drop 8 bytes) (bytes-drop 8 bytes are)))
-
-  upper-split : littleEndian (drop 8 bytes) ≡ littleEndian (take 4 (drop 8 bytes)) + 2 ^ 32 * littleEndian (drop 12 bytes)
-  upper-split =
-      ap littleEndian (sym (take-append-drop 4 (drop 8 bytes)))
-      ∙ little-endian-append (take 4 (drop 8 bytes)) (drop 4 (drop 8 bytes))
-      ∙ rw (middle-four, drop-drop 4 8 bytes)
 
   -- the upper word holds the kind above the word of the exponent
   pub upper-read : (high : ℕ) → high ≡ littleEndian (take (length bytes - 8) (drop 8 bytes))
       → (high / 2 ^ 32 ≡ littleEndian (drop 12 bytes)) × (high % 2 ^ 32 ≡ littleEndian (take 4 (drop 8 bytes)))
   upper-read high is =
-      let whole = is ∙ ap littleEndian (take-all (length bytes - 8) (drop 8 bytes) (le-of-eq (length-drop 8 bytes))) ∙ upper-split in
+      let upper = (rw (rest-all 8 bytes) at is) ∙ sym (rw (drop-drop 4 8 bytes) at (whole 4 8 (lit≤ tt) (drop 8 bytes) upper-eight)) in
       let small = middle-below in
       (omega arith, omega arith)

@@ -1,50 +1,27 @@
 -- `export::navehuro_add` meets its contract: the outcome of the sum is left, and a refusal before it leaves the bytes alone.
-use mathlib.Core.Path.{_∙_}
 use borrow.Author.Needs.{needs}
-use Rattle.export.proofs.Laws.Calls.{call-wrong-length, call-no-number, call-operated, numbers-room}
+use Rattle.export.proofs.Laws.Calls.{carried, call-by, numbers-room}
 use Rattle.export.proofs.navehuro_add.Statement.{statement}
 use Rattle.export.proofs.navehuro_add.Tie as tie
 
-operands-in-requires : tie.Need-operands-in-requires
-operands-in-requires c κs = search needs
-
-enum-known-operands : tie.Need-enum-known-operands
-enum-known-operands c = search needs
-
-add-requires : tie.Need-add-requires
-add-requires c κs = search needs
-
-outcome-of-requires : tie.Need-outcome-of-requires
-outcome-of-requires c κs = search needs
-
 leave-requires : tie.Need-leave-requires
 leave-requires c κs =
-    let at-operands = c .before .before .before .before in
-    numbers-room _ _ _ _ _ _ (at-operands .before .before .operands-in .ensures) (at-operands .operands .given .1)
-
-enum-told : tie.Need-enum-told
-enum-told c = search needs
-
-enum-told-2 : tie.Need-enum-told-2
-enum-told-2 c = search needs
-
-same-length : tie.Need-same-length
-same-length c = search needs
+    let found = c .before .before .before .before in
+    numbers-room _ _ _ _ _ _ (found .before .before .operands-in .ensures) (found .operands .given .1)
 
 returns : tie.Need-returns
+unfolding carried
 returns c =
-    let at-leave = c .before .before in
-    let at-outcome = at-leave .before .before in
-    let at-operands = at-outcome .before .before .before in
-    call-operated _ _ _ _ _ (at-operands .before .before .operands-in .ensures) _ _ (at-operands .operands .given .1) _ _ _ (at-outcome .outcome-of .ensures ∙ at-outcome .before .add .ensures) (at-leave .leave .ensures)
-
-returns-2 : tie.Need-returns-2
-returns-2 c = call-wrong-length _ _ _ _ _ (c .before .before .operands-in .ensures) (c .enum-told .given .1)
-
-returns-3 : tie.Need-returns-3
-returns-3 c = call-no-number _ _ _ _ _ (c .before .before .operands-in .ensures) (c .enum-told2 .given .1)
+    let done = c .before .before .before .before in
+    let found = done .before .before .before in
+    rw (c .before .before .leave .ensures, done .outcome-of .ensures, done .before .add .ensures)
+    (call-by _ _ _ _ _ _ (found .before .before .operands-in .ensures) (found .operands .given .1))
 
 pub navehuro-add-spec : {M : Type 1} → statement M
+unfolding carried
 navehuro-add-spec =
     tie.close
-    (tie.spec operands-in-requires enum-known-operands add-requires outcome-of-requires leave-requires enum-told enum-told-2 same-length returns returns-2 returns-3)
+    (tie.spec (λ c κs. search needs) (λ c. search needs) (λ c κs. search needs) (λ c κs. search needs) leave-requires (λ c. search needs) (λ c. search needs)
+    (λ c. search needs) returns
+    (λ c. call-by _ _ _ _ _ _ (c .before .before .operands-in .ensures) (c .enum-told .given .1))
+    (λ c. call-by _ _ _ _ _ _ (c .before .before .operands-in .ensures) (c .enum-told2 .given .1)))

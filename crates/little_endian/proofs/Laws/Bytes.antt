@@ -3,13 +3,12 @@ use mathlib.Core.Path.{_≡_, refl, sym, ap, _∙_}
 use mathlib.Core.List.{List, [], _∷_, _++_, append-nil}
 use Prim.Native.Nat.{ℕ, zero, suc, _+_, _-_, _*_, _/_, _%_, _^_, _≤_, _<_}
 use native.Mathlib.Nat.{lt-of-lt-of-le, mod-eq-of-lt, pow-le-pow-right, suc-add, zero-add, add-sub-of-le, le-of-eq, mod-lt, div-one, div-div-eq-div-mul, pow-suc, pow-succ'}
-use native.Mathlib.Numerals.{add-one}
 use native.Mathlib.Omega.{arith}
 use lib.Arith.{digits-div}
 use lib.Dec.{lit<}
 use lib.Pow.{pow-add}
 use lib.ListN.{length, getD, take, drop, replicate, length-drop, take-append-drop, drop-of-length-le}
-use lib.Seq.{length-take-le, take-all, take-at, drop-at, drop-cons}
+use lib.Seq.{length-take-le, take-all, take-at, drop-at, drop-cons, getD-drop}
 use Rattle.little_endian.specs.Bytes.{littleEndian, bytesOf, IsBytes}
 
 -- 256^n is 2^(8 × n)
@@ -74,9 +73,9 @@ bytes-append zero n w = rw (zero-add n, div-one w)
 bytes-append (suc m) n w = rw (suc-add m n, pow-succ' 256 m, ← div-div-eq-div-mul w 256 (256 ^ m), ← bytes-append m n (w / 256))
 
 -- one more byte, written at the end
-pub bytes-more : (n w : ℕ) → bytesOf (suc n) w ≡ bytesOf n w ++ (w / 256 ^ n % 256 ∷ [])
+pub bytes-more : (n w : ℕ) → bytesOf (n + 1) w ≡ bytesOf n w ++ (w / 256 ^ n % 256 ∷ [])
 unfolding bytesOf
-bytes-more n w = ap (λ (k : ℕ). bytesOf k w) (sym (add-one n)) ∙ bytes-append n 1 w
+bytes-more n w = bytes-append n 1 w
 
 -- one more byte, read from the end into a word: it comes in below
 pub read-more : (bytes : List ℕ) (i w b : ℕ) → i < length bytes → b ≡ getD bytes i 0 → b < 256 → w ≡ littleEndian (drop (suc i) bytes) % 2 ^ 64
@@ -99,9 +98,8 @@ bytes-take (suc n) (b ∷ bytes) h zero = h 0
 bytes-take (suc n) (b ∷ bytes) h (suc i) = bytes-take n bytes (λ (j : ℕ). h (suc j)) i
 
 pub bytes-drop : (n : ℕ) (bytes : List ℕ) → IsBytes bytes → IsBytes (drop n bytes)
-bytes-drop zero bytes h = h
-bytes-drop (suc n) [] h = h
-bytes-drop (suc n) (b ∷ bytes) h = bytes-drop n bytes (bytes-tail b bytes h .1)
+unfolding IsBytes
+bytes-drop n bytes h i = rw (getD-drop n bytes i 0) (h (n + i))
 
 -- bytes after bytes are bytes, and so are zeros
 pub joined-bytes : (xs ys : List ℕ) → IsBytes xs → IsBytes ys → IsBytes (xs ++ ys)
@@ -127,22 +125,26 @@ bytes-low (suc n) v w =
     rw (low, high, bytes-low n v (w / 256))
 
 -- as many as follow the first n are all that follow them
-rest-all : (n : ℕ) (bytes : List ℕ) → take (length bytes - n) (drop n bytes) ≡ drop n bytes
+pub rest-all : (n : ℕ) (bytes : List ℕ) → take (length bytes - n) (drop n bytes) ≡ drop n bytes
 rest-all n bytes = take-all (length bytes - n) (drop n bytes) (le-of-eq (length-drop n bytes))
+
+-- the first n bytes are written over, and then all that follow them
+pub both-over : (n : ℕ) (all first old rest front back : List ℕ) → all ≡ first ++ old → first ≡ front → rest ≡ back → length front ≡ n
+    → take n all ++ (rest ++ drop (length all - n) (drop n all)) ≡ front ++ back
+both-over n all first old rest front back is first-is rest-is short =
+    let begun : take n all ≡ front = rw (is, first-is) (take-at front old n short) in
+    rw (begun, rest-is, drop-of-length-le (drop n all) (le-of-eq (length-drop n all)), append-nil)
 
 -- m bytes in two parts, the first n of them and the rest
 module _ (n m : ℕ) (h : n ≤ m) (bytes : List ℕ) (count : length bytes ≡ m) where
   pub first-length : length (take n bytes) ≡ n
   first-length = length-take-le n bytes (rw count h)
 
-  rest-length : length (drop n bytes) ≡ m - n
-  rest-length = length-drop n bytes ∙ ap (λ (k : ℕ). k - n) count
+  pub rest-length : length (drop n bytes) ≡ m - n
+  rest-length = rw (length-drop n bytes, count)
 
-  whole : littleEndian (take n bytes) + 256 ^ n * littleEndian (drop n bytes) ≡ littleEndian bytes
-  whole =
-      ap (λ (k : ℕ). littleEndian (take n bytes) + 256 ^ k * littleEndian (drop n bytes)) (sym first-length)
-      ∙ sym (little-endian-append (take n bytes) (drop n bytes))
-      ∙ ap littleEndian (take-append-drop n bytes)
+  pub whole : littleEndian (take n bytes) + 256 ^ n * littleEndian (drop n bytes) ≡ littleEndian bytes
+  whole = sym (rw first-length at (little-endian-append (take n bytes) (drop n bytes))) ∙ ap littleEndian (take-append-drop n bytes)
 
   -- the parts are read one after the other, each into a word
   pub read-parts : (low high : ℕ) → IsBytes bytes → n ≤ 8 → m - n ≤ 8
@@ -150,7 +152,7 @@ module _ (n m : ℕ) (h : n ≤ m) (bytes : List ℕ) (count : length bytes ≡ 
       → (high * 256 ^ n + low ≡ littleEndian bytes) × (high < 256 ^ (m - n))
   read-parts low high are n8 r8 el eh =
       let first = el ∙ read-whole (take n bytes) (bytes-take n bytes are) (rw first-length n8) in
-      let rest = eh ∙ ap (λ (part : List ℕ). littleEndian part % 2 ^ 64) (rest-all n bytes) ∙ read-whole (drop n bytes) (bytes-drop n bytes are) (rw rest-length r8) in
+      let rest = (rw (rest-all n bytes) at eh) ∙ read-whole (drop n bytes) (bytes-drop n bytes are) (rw rest-length r8) in
       (rw (first, rest) (omega (arith, whole)), rw (rest, ← rest-length) (little-endian-below (drop n bytes) (bytes-drop n bytes are)))
 
   -- the parts are written one after the other
@@ -158,10 +160,8 @@ module _ (n m : ℕ) (h : n ≤ m) (bytes : List ℕ) (count : length bytes ≡ 
       → all ≡ first ++ drop n bytes → first ≡ bytesOf (length (take n bytes)) low → rest ≡ bytesOf (length (take (length all - n) (drop n all))) high
       → take n all ++ (rest ++ drop (length all - n) (drop n all)) ≡ bytesOf m (high * 256 ^ n + low)
   write-parts all first rest low high small ea ef er =
-      let short : length first ≡ n = ap length ef ∙ bytes-length (length (take n bytes)) low ∙ first-length in
-      let front : take n all ≡ bytesOf n low = rw ea (take-at first (drop n bytes) n short) ∙ ef ∙ ap (λ (k : ℕ). bytesOf k low) first-length in
-      let same : drop n all ≡ drop n bytes = rw ea (drop-at first (drop n bytes) n short) in
-      let back : rest ≡ bytesOf (m - n) high = er ∙ ap (λ (k : ℕ). bytesOf k high) (ap length (rest-all n all ∙ same) ∙ rest-length) in
-      let none : drop (length all - n) (drop n all) ≡ [] = drop-of-length-le (drop n all) (le-of-eq (length-drop n all)) in
-      let halves = bytes-append n (m - n) (high * 256 ^ n + low) in
-      rw (front, back, none, append-nil) (sym (rw (add-sub-of-le h, bytes-low, digits-div high small) at halves))
+      let front : first ≡ bytesOf n low = rw first-length at ef in
+      let short : length first ≡ n = rw front (bytes-length n low) in
+      let back : rest ≡ bytesOf (m - n) high = rw (rest-all n all, ea, drop-at first (drop n bytes) n short, rest-length) at er in
+      both-over n all first (drop n bytes) rest (bytesOf n low) (bytesOf (m - n) high) ea front back (bytes-length n low)
+      ∙ sym (rw (add-sub-of-le h, bytes-low, digits-div high small) at (bytes-append n (m - n) (high * 256 ^ n + low)))

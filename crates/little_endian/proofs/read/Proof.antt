@@ -35,33 +35,9 @@ Inv-loop bytes w₀ i₀ w i = Above bytes w i
 abbrev μ-loop : tie.MeasureT-loop
 μ-loop bytes w₀ i₀ w i = i
 
-loop-holds : tie.Need-loop-holds Inv-loop μ-loop
-loop-holds c = begins _
-
-sub-i : tie.Need-sub-i Inv-loop μ-loop
-sub-i c = search needs
-
-mul-w : tie.Need-mul-w Inv-loop μ-loop
-mul-w c = search needs
-
-shared-slice-read-word : tie.Need-shared-slice-read-word Inv-loop μ-loop
-shared-slice-read-word c = omega (arith, c .before .before .loop .inv .within, c .before .loop-test .taken)
-
-word-requires : tie.Need-word-requires Inv-loop μ-loop
-word-requires c κs = search needs
-
 -- what is read is a byte
 byte : (c : tie.After-word Inv-loop μ-loop) → c .word .result < 256
 byte c = rw (c .word .ensures) (c .before .shared-slice-known2 .given (c .before .before .before .loop .i - 1) .fits)
-
-add-w : tie.Need-add-w Inv-loop μ-loop
-add-w c = omega (arith, byte c)
-
-loop-less : tie.Need-loop-less Inv-loop μ-loop
-loop-less c = omega (arith, c .before .before .loop-test .taken)
-
-loop-again : tie.Need-loop-again Inv-loop μ-loop
-loop-again c = next _ _ _ _ (c .before .before .before .loop .inv) (c .before .before .loop-test .taken) (c .word .ensures) (byte c)
 
 returns : tie.Need-returns Inv-loop μ-loop
 returns c = c .before .loop .inv .holds ∙ ap (λ (k : ℕ). littleEndian (drop k (c .before .before .before .args .bytes .now)) % 2 ^ 64) (le-zero (c .loop-test .left))
@@ -72,12 +48,12 @@ read-spec =
     (tie.spec
     Inv-loop
     μ-loop
-    loop-holds
-    sub-i
-    mul-w
-    shared-slice-read-word
-    word-requires
-    add-w
-    loop-less
-    loop-again
+    (λ c. begins _)
+    (λ c. search needs)
+    (λ c. search needs)
+    (λ c. omega (arith, c .before .before .loop .inv .within, c .before .loop-test .taken))
+    (λ c κs. search needs)
+    (λ c. omega (arith, byte c))
+    (λ c. omega (arith, c .before .before .loop-test .taken))
+    (λ c. next _ _ _ _ (c .before .before .before .loop .inv) (c .before .before .loop-test .taken) (c .word .ensures) (byte c))
     returns)

@@ -29,7 +29,7 @@ next : (old : List ℕ) (w : ℕ) (bytes : List ℕ) (left i : ℕ) → Written 
 next old w bytes left i a h = record {
   kept = length-set bytes i (left % 256) ∙ a .kept;
   within = rw length-set (add-one-le h);
-  holds = rw (add-one, take-suc-set bytes i (left % 256) h, a .holds, a .rest) (sym (bytes-more i w));
+  holds = rw (bytes-more i w, add-one, take-suc-set bytes i (left % 256) h, a .holds, a .rest);
   rest = rw (a .rest, add-one, pow-suc) (div-div-eq-div-mul w (256 ^ i) 256);
 }
 
@@ -42,41 +42,17 @@ Inv-loop bytes₀ w left₀ i₀ bytes left i = Written bytes₀ w bytes left i
 abbrev μ-loop : tie.MeasureT-loop
 μ-loop bytes₀ w left₀ i₀ bytes left i = length bytes₀ - i
 
-loop-holds : tie.Need-loop-holds Inv-loop μ-loop
-loop-holds c = begins _ _
-
-cast-bytes : tie.Need-cast-bytes Inv-loop μ-loop
-cast-bytes c = search needs
-
-slice-write-bytes : tie.Need-slice-write-bytes Inv-loop μ-loop
-slice-write-bytes c = c .loop-test .taken
-
-add-i : tie.Need-add-i Inv-loop μ-loop
-add-i c = search needs
-
-loop-less : tie.Need-loop-less Inv-loop μ-loop
-loop-less c = omega (arith, c .loop-test .taken, c .before .loop .inv .kept)
-
-loop-again : tie.Need-loop-again Inv-loop μ-loop
-loop-again c = next _ _ _ _ _ (c .before .loop .inv) (c .loop-test .taken)
-
-same-length : tie.Need-same-length Inv-loop μ-loop
-same-length c = c .before .loop .inv .kept
-
-returns : tie.Need-returns Inv-loop μ-loop
-returns c = ends _ _ _ _ _ (c .before .loop .inv) (c .loop-test .left)
-
 pub write-spec : {M : Type 1} → statement M
 write-spec =
     tie.close
     (tie.spec
     Inv-loop
     μ-loop
-    loop-holds
-    cast-bytes
-    slice-write-bytes
-    add-i
-    loop-less
-    loop-again
-    same-length
-    returns)
+    (λ c. begins _ _)
+    (λ c. search needs)
+    (λ c. c .loop-test .taken)
+    (λ c. search needs)
+    (λ c. omega (arith, c .loop-test .taken, c .before .loop .inv .kept))
+    (λ c. next _ _ _ _ _ (c .before .loop .inv) (c .loop-test .taken))
+    (λ c. c .before .loop .inv .kept)
+    (λ c. ends _ _ _ _ _ (c .before .loop .inv) (c .loop-test .left)))

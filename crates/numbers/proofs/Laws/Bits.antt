@@ -14,7 +14,7 @@ use Rattle.numbers.specs.Answer.{given, claimed, judged}
 use Rattle.numbers.specs.Grid.{InCell}
 use Rattle.numbers.specs.declared.task.Mode.the-variants.{Trunc}
 use Rattle.numbers.proofs.Laws.Cell.{bits-at}
-use Rattle.numbers.proofs.Laws.Powers.{top-bit, below-top, pow-below}
+use Rattle.numbers.proofs.Laws.Powers.{top-bit, below-top, pow-below, power-sum}
 
 -- a / b is q × 2^i / 2^o
 pub bits-of : (n a b q i o : ℕ) → 1 ≤ n → 0 < a → 0 < b → q < 2 ^ n → a * 2 ^ o ≡ q * (b * 2 ^ i) → hasAtMostBits n a b ≡ true
@@ -35,7 +35,7 @@ bits-of n a b (suc p) i o n0 a0 b0 q1 e =
 
     whole : (q n t : ℕ) → n ≤ t → t < n + n → 2 * (q * 2 ^ n) + 0 ≡ q * 2 ^ (n + n - (t + 1)) * (2 * (2 * 2 ^ (t - n)))
     whole q n t l s =
-        omega (arith, ap (λ (m : ℕ). q * m) (ap (λ (m : ℕ). 2 ^ m) (let k : n ≡ n + n - (t + 1) + (1 + (t - n)) = omega arith in k) ∙ pow-add 2 (n + n - (t + 1)) (1 + (t - n)) ∙ ap (λ (m : ℕ). 2 ^ (n + n - (t + 1)) * m) (pow-add 2 1 (t - n))))
+        omega (arith, ap (λ (m : ℕ). q * m) (power-sum n (n + n - (t + 1)) (1 + (t - n)) (omega arith) ∙ ap (λ (m : ℕ). 2 ^ (n + n - (t + 1)) * m) (pow-add 2 1 (t - n))))
 
 -- a claim that holds gives the value, which trunc keeps (Bounds, `kept`)
 pub claim-holds : (n : ℕ) (x : Fraction) → 0 < natAbs (x .numerator) → isWorkingExponent (exponentOf (natAbs (x .numerator)) (x .denominator)) ≡ true

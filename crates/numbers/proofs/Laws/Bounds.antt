@@ -11,18 +11,19 @@ use lib.Pow.{pow-pos}
 use lib.Ieee.{up, down}
 use lib.Ieee.Fits.{up-pos, down-pos}
 use borrow.Author.Tests.{eqb-true, eqb-false, ne-eqb}
-use Rattle.numbers.specs.Fraction.{Fraction, IsFraction, Equal, AtMost, value, difference, signed, magnitude, times, Below}
-use Rattle.numbers.specs.Rounding.{exponentOf, scaledNumerator, scaledDenominator, placed, roundedAt, isNegative, round, hasAtMostBits}
+use Rattle.numbers.specs.Fraction.{Fraction, IsFraction, Equal, AtMost, value, difference, signed, magnitude, times, Below, isNegative}
+use Rattle.numbers.specs.Rounding.{exponentOf, scaledNumerator, scaledDenominator, placed, roundedAt, round, hasAtMostBits}
 use Rattle.numbers.specs.Grid.{unitOf}
 use Rattle.numbers.specs.declared.number.Number.the-variants.{Finite}
 use Rattle.numbers.specs.declared.task.Mode.{Mode}
 use Rattle.numbers.specs.declared.task.Mode.the-variants.{Trunc, Away, Near, Sticky, Up, Down}
+use Rattle.numbers.proofs.Laws.Scaled.{value-fraction}
 use Rattle.numbers.proofs.Laws.Powers.{power-twice, word-parts}
 use Rattle.numbers.proofs.Laws.Ratio.{Ratio, gap, ratio-swap, ratio-below, ratio-order, ratio-same, ratio-gap}
 use Rattle.numbers.proofs.Laws.Signs.{abs-signed, negative-signed, signed-order}
-use Rattle.numbers.proofs.Laws.Exponent.{exponent-reaches, exponent-named}
+use Rattle.numbers.proofs.Laws.Exponent.{exponent-reaches, exponent-named, scaled-positive}
 use Rattle.numbers.proofs.Laws.Misses.{whole-exact, whole-kept, whole-trunc, whole-away, whole-down, whole-up, whole-miss, whole-near, whole-sticky}
-use Rattle.numbers.proofs.Laws.Rounded.{value-fraction, exponent, top, bottom, whole, before, after, round-ratio, after-signed, before-signed, miss}
+use Rattle.numbers.proofs.Laws.Rounded.{exponent, numeratorAt, denominatorAt, whole, before, after, round-ratio, after-signed, before-signed, miss}
 
 -- a gap against the unit k / c, by its ratio to the gap of whole numbers over b × k
 below-unit : {u v c p q d : ℕ} (b k : ℕ) → Ratio u v c p q d → 0 < d → gap p q < b * k → gap u v * c < k * (d * b)
@@ -46,18 +47,17 @@ within-below u v p p0 l =
     omega (arith, mul-le-mul-right p k)
 
 module _ (x : Fraction) (n : ℕ) (x0 : IsFraction x) (n0 : 1 ≤ n) (n1 : n ≤ 64) where
-  bottom0 : 0 < bottom x
-  unfolding scaledDenominator IsFraction
-  bottom0 = mul-pos x0 (up-pos (exponent x))
+  denominator0 : 0 < denominatorAt x
+  denominator0 = scaled-positive (exponent x) (x .denominator) x0
 
   -- trunc goes no further from zero, away no nearer to it
   pub trunc-below : AtMost (magnitude (value (round Trunc n x))) (magnitude x)
   unfolding AtMost magnitude
-  trunc-below = leZ-yes (le→leb _ _ (ratio-below (round-ratio Trunc n x x0 n0 n1) (whole-trunc (top n x) (bottom x) bottom0 (isNegative (x .numerator)))))
+  trunc-below = leZ-yes (le→leb _ _ (ratio-below (round-ratio Trunc n x x0 n0 n1) (whole-trunc (numeratorAt n x) (denominatorAt x) denominator0 (isNegative (x .numerator)))))
 
   pub away-above : AtMost (magnitude x) (magnitude (value (round Away n x)))
   unfolding AtMost magnitude
-  away-above = leZ-yes (le→leb _ _ (ratio-below (ratio-swap (round-ratio Away n x x0 n0 n1)) (whole-away (top n x) (bottom x) bottom0 (isNegative (x .numerator)))))
+  away-above = leZ-yes (le→leb _ _ (ratio-below (ratio-swap (round-ratio Away n x x0 n0 n1)) (whole-away (numeratorAt n x) (denominatorAt x) denominator0 (isNegative (x .numerator)))))
 
   -- down goes no higher, up no lower, whatever the sign
   pub down-below : AtMost (value (round Down n x)) x
@@ -65,32 +65,31 @@ module _ (x : Fraction) (n : ℕ) (x0 : IsFraction x) (n0 : 1 ≤ n) (n1 : n ≤
   down-below =
       let s = isNegative (x .numerator) in
       rw (after-signed Down n x x0 n0 n1, before-signed Down n x x0 n0 n1)
-      (signed-order s (after Down n x) (before Down n x) (ratio-order (round-ratio Down n x x0 n0 n1) s (whole-down (top n x) (bottom x) bottom0 s)))
+      (signed-order s (after Down n x) (before Down n x) (ratio-order (round-ratio Down n x x0 n0 n1) s (whole-down (numeratorAt n x) (denominatorAt x) denominator0 s)))
 
   pub up-above : AtMost x (value (round Up n x))
   unfolding AtMost
   up-above =
       let s = isNegative (x .numerator) in
       rw (after-signed Up n x x0 n0 n1, before-signed Up n x x0 n0 n1)
-      (signed-order s (before Up n x) (after Up n x) (ratio-order (ratio-swap (round-ratio Up n x x0 n0 n1)) s (whole-up (top n x) (bottom x) bottom0 s)))
+      (signed-order s (before Up n x) (after Up n x) (ratio-order (ratio-swap (round-ratio Up n x x0 n0 n1)) s (whole-up (numeratorAt n x) (denominatorAt x) denominator0 s)))
 
   -- near misses by at most half a unit
   pub near-half : AtMost (times 2 (magnitude (difference (value (round Near n x)) x))) (unitOf n x)
   unfolding AtMost times magnitude unitOf difference scaledDenominator
   near-half =
       rw (miss Near n x x0 n0 n1)
-      (leZ-yes (le→leb _ _ (half-unit (x .denominator) (up (exponent x)) (round-ratio Near n x x0 n0 n1) (whole-near (top n x) (bottom x) bottom0 (isNegative (x .numerator))))))
+      (leZ-yes (le→leb _ _ (half-unit (x .denominator) (up (exponent x)) (round-ratio Near n x x0 n0 n1) (whole-near (numeratorAt n x) (denominatorAt x) denominator0 (isNegative (x .numerator))))))
 
   -- every mode misses by less than a unit, and a unit is at most x / 2^(n − 1)
   missed : (mode : Mode) → natAbs (difference (value (round mode n x)) x .numerator) * (2 ^ (n - 1) * down (exponent x)) < up (exponent x) * (value (round mode n x) .denominator * x .denominator)
-  unfolding scaledDenominator IsFraction
+  unfolding scaledDenominator
   missed mode =
       rw (miss mode n x x0 n0 n1)
       (below-unit (x .denominator) (up (exponent x)) (round-ratio mode n x x0 n0 n1) (value-fraction (round mode n x))
-      (whole-miss (top n x) (bottom x) bottom0 mode (isNegative (x .numerator))))
+      (whole-miss (numeratorAt n x) (denominatorAt x) denominator0 mode (isNegative (x .numerator))))
 
   unit : 0 < natAbs (x .numerator) → up (exponent x) * 2 ^ (n - 1) * x .denominator ≤ natAbs (x .numerator) * (2 ^ (n - 1) * down (exponent x))
-  unfolding IsFraction
   unit nz = omega (arith, mul-le-mul-right (2 ^ (n - 1)) (exponent-reaches (natAbs (x .numerator)) (x .denominator) nz x0))
 
   pub miss-below-unit : (mode : Mode) → Below (magnitude (difference (value (round mode n x)) x)) (unitOf n x)
@@ -102,7 +101,7 @@ module _ (x : Fraction) (n : ℕ) (x0 : IsFraction x) (n0 : 1 ≤ n) (n1 : n ≤
   unit-small nz = leZ-yes (le→leb _ _ (unit nz))
 
   pub miss-small : (mode : Mode) → 0 < natAbs (x .numerator) → Below (times (2 ^ (n - 1)) (magnitude (difference (value (round mode n x)) x))) (magnitude x)
-  unfolding Below times magnitude difference IsFraction
+  unfolding Below times magnitude difference
   miss-small mode nz =
       ltZ-yes (lt→ltb _ _
       (below-part (natAbs (difference (value (round mode n x)) x .numerator)) (2 ^ (n - 1)) (down (exponent x)) (up (exponent x)) (natAbs (x .numerator)) (x .denominator)
@@ -110,7 +109,6 @@ module _ (x : Fraction) (n : ℕ) (x0 : IsFraction x) (n0 : 1 ≤ n) (n1 : n ≤
 
   -- so a rounded magnitude is x times less than 1 + 1 / 2^(n − 1), and times more than 1 − 1 / 2^(n − 1)
   nearby : (mode : Mode) → 0 < natAbs (x .numerator) → gap (after mode n x) (before mode n x) * 2 ^ (n - 1) < before mode n x
-  unfolding IsFraction
   nearby mode nz =
       lt-of-mul-lt-mul-right (x .denominator)
       (rw (← miss mode n x x0 n0 n1)
@@ -141,11 +139,11 @@ module _ (x : Fraction) (n : ℕ) (x0 : IsFraction x) (n0 : 1 ≤ n) (n1 : n ≤
     where
       not-zero : natAbs (x .numerator) ≡ 0 → ⊥
       not-zero z =
-          eqb-false (top n x % bottom x) 0 h
-          (ap (λ (m : ℕ). m * 2 ^ (n - 1) * down (exponent x) % bottom x) z ∙ ap (λ (m : ℕ). m % bottom x) (let k : 0 * 2 ^ (n - 1) * down (exponent x) ≡ 0 = omega arith in k) ∙ zero-mod (bottom x))
+          eqb-false (numeratorAt n x % denominatorAt x) 0 h
+          (ap (λ (m : ℕ). m * 2 ^ (n - 1) * down (exponent x) % denominatorAt x) z ∙ ap (λ (m : ℕ). m % denominatorAt x) (let k : 0 * 2 ^ (n - 1) * down (exponent x) ≡ 0 = omega arith in k) ∙ zero-mod (denominatorAt x))
 
       odd : whole Sticky n x % 2 ≡ 1
-      odd = whole-sticky (top n x) (bottom x) bottom0 (isNegative (x .numerator)) (pos-of-ne-zero (eqb-false (top n x % bottom x) 0 h))
+      odd = whole-sticky (numeratorAt n x) (denominatorAt x) denominator0 (isNegative (x .numerator)) (pos-of-ne-zero (eqb-false (numeratorAt n x % denominatorAt x) 0 h))
 
       no-carry : whole Sticky n x ≡ 2 ^ n → ⊥
       no-carry e = omega (arith, odd, power-twice n n0)
@@ -156,7 +154,7 @@ module _ (x : Fraction) (n : ℕ) (x0 : IsFraction x) (n0 : 1 ≤ n) (n1 : n ≤
   kept mode h =
       after-signed mode n x x0 n0 n1
       ∙ ap (λ (m : ℕ). signed (isNegative (x .numerator)) m)
-      (ratio-same (round-ratio mode n x x0 n0 n1) (whole-kept (top n x) (bottom x) bottom0 mode (isNegative (x .numerator)) (eqb-true (top n x % bottom x) 0 h)))
+      (ratio-same (round-ratio mode n x x0 n0 n1) (whole-kept (numeratorAt n x) (denominatorAt x) denominator0 mode (isNegative (x .numerator)) (eqb-true (numeratorAt n x % denominatorAt x) 0 h)))
       ∙ sym (before-signed mode n x x0 n0 n1)
 
 -- a number of n bits is its own rounding

@@ -11,17 +11,17 @@ use lib.IntN.{ℤ, natAbs}
 use lib.Pow.{pow-add, pow-pos}
 use lib.Ieee.{up, down, minus}
 use lib.Ieee.Digits.{minus-val}
-use lib.Ieee.Fits.{up-pos, down-pos}
+use lib.Ieee.Fits.{down-pos}
 use Rattle.numbers.specs.Number.{isWorkingExponent}
-use Rattle.numbers.specs.Fraction.{Fraction, IsFraction}
-use Rattle.numbers.specs.Rounding.{exponentOf, scaledNumerator, scaledDenominator, wholeOf, placed, roundedAt, isNegative, round, hasAtMostBits, precisionOf}
+use Rattle.numbers.specs.Fraction.{Fraction, IsFraction, isNegative}
+use Rattle.numbers.specs.Rounding.{exponentOf, scaledNumerator, scaledDenominator, wholeOf, placed, roundedAt, round, hasAtMostBits, precisionOf}
 use Rattle.numbers.specs.Answer.{rounded, claimed, checked, judged}
-use Rattle.numbers.specs.Grid.{InCell, digit, RoundedAlike}
+use Rattle.numbers.specs.Grid.{InCell, bitOf, RoundedAlike}
 use Rattle.numbers.specs.declared.task.Mode.{Mode}
 use Rattle.numbers.specs.declared.task.Mode.the-variants.{Trunc}
 use Rattle.numbers.specs.declared.task.Task.{Task}
 use Rattle.numbers.specs.declared.task.Task.the-variants.{Round, Exact}
-use Rattle.numbers.proofs.Laws.Exponent.{exponent-unique}
+use Rattle.numbers.proofs.Laws.Exponent.{exponent-unique, scaled-positive}
 use Rattle.numbers.proofs.Laws.Powers.{power-parts, top-bit, below-top}
 use Rattle.numbers.proofs.Laws.Tests.{zero-same}
 use Rattle.numbers.proofs.Laws.Whole.{cell-low, cell-high, whole-cell, fraction-cell}
@@ -50,7 +50,7 @@ module _ (rest : Bool) (a b i o F t n : ℕ) (b0 : 0 < b) (n0 : 1 ≤ n) (fine :
         ap (λ (m : ℕ). m * (b * 2 ^ i)) (pow-succ' 2 t),
       )
 
-  above-zero : 0 < a
+  pub above-zero : 0 < a
   above-zero = lt-of-mul-lt-mul-right (2 ^ o) (lt-of-lt-of-le (omega (arith, mul-le-mul b0 (pow-pos (t + i)))) low)
 
   pub exponent-cell : exponentOf a b ≡ minus (t + i) o
@@ -64,33 +64,28 @@ module _ (rest : Bool) (a b i o F t n : ℕ) (b0 : 0 < b) (n0 : 1 ≤ n) (fine :
       (omega (arith, k, ap (λ (m : ℕ). b * down e * m) (pow-add 2 t i)))
       h
 
-  bottom0 : (e : ℤ) → 0 < scaledDenominator e b
-  unfolding scaledDenominator
-  bottom0 e = mul-le-mul b0 (up-pos e)
-
   -- the whole number and the claim, each from the cell
-  pub whole-at : (mode : Mode) (negative : Bool) → wholeOf mode negative (scaledNumerator n (minus (t + i) o) a) (scaledDenominator (minus (t + i) o) b) ≡ wholeOf mode negative (2 * F + digit rest) (2 * (2 * 2 ^ (t - n)))
+  pub whole-at : (mode : Mode) (negative : Bool) → wholeOf mode negative (scaledNumerator n (minus (t + i) o) a) (scaledDenominator (minus (t + i) o) b) ≡ wholeOf mode negative (2 * F + bitOf rest) (2 * (2 * 2 ^ (t - n)))
   whole-at mode negative =
-      whole-cell rest (scaledNumerator n (minus (t + i) o) a) (scaledDenominator (minus (t + i) o) b) F (2 ^ (t - n)) (bottom0 (minus (t + i) o)) (pow-pos (t - n))
+      whole-cell rest (scaledNumerator n (minus (t + i) o) a) (scaledDenominator (minus (t + i) o) b) F (2 ^ (t - n)) (scaled-positive (minus (t + i) o) b b0) (pow-pos (t - n))
       (scaled (minus (t + i) o) (minus-val b (t + i) o)) mode negative
 
-  pub bits-at : hasAtMostBits n a b ≡ eqb ((2 * F + digit rest) % (2 * (2 * 2 ^ (t - n)))) 0
+  pub bits-at : hasAtMostBits n a b ≡ eqb ((2 * F + bitOf rest) % (2 * (2 * 2 ^ (t - n)))) 0
   unfolding hasAtMostBits
   bits-at =
       rw exponent-cell
-      (zero-same (scaledNumerator n (minus (t + i) o) a % scaledDenominator (minus (t + i) o) b) ((2 * F + digit rest) % (2 * (2 * 2 ^ (t - n))))
-      (fraction-cell rest (scaledNumerator n (minus (t + i) o) a) (scaledDenominator (minus (t + i) o) b) F (2 ^ (t - n)) (bottom0 (minus (t + i) o)) (pow-pos (t - n))
+      (zero-same (scaledNumerator n (minus (t + i) o) a % scaledDenominator (minus (t + i) o) b) ((2 * F + bitOf rest) % (2 * (2 * 2 ^ (t - n))))
+      (fraction-cell rest (scaledNumerator n (minus (t + i) o) a) (scaledDenominator (minus (t + i) o) b) F (2 ^ (t - n)) (scaled-positive (minus (t + i) o) b b0) (pow-pos (t - n))
       (scaled (minus (t + i) o) (minus-val b (t + i) o))))
 
 -- a fraction in the cell F, rounded and claimed
 module _ (x : Fraction) (rest : Bool) (i o F t n : ℕ) (b0 : IsFraction x) (n0 : 1 ≤ n) (fine : n ≤ t) (t0 : 2 ^ t ≤ F) (t1 : F < 2 ^ suc t)
     (h : InCell rest (natAbs (x .numerator) * 2 ^ o) F (x .denominator * 2 ^ i)) where
   not-zero : eqb (natAbs (x .numerator)) 0 ≡ false
-  unfolding IsFraction
   not-zero = ne-eqb (natAbs (x .numerator)) 0 (λ (z : natAbs (x .numerator) ≡ 0). omega (arith, above-zero rest (natAbs (x .numerator)) (x .denominator) i o F t n b0 n0 fine t0 t1 h))
 
-  pub round-cell : (mode : Mode) → round mode n x ≡ placed (isNegative (x .numerator)) (minus (t + i) o) n (wholeOf mode (isNegative (x .numerator)) (2 * F + digit rest) (2 * (2 * 2 ^ (t - n))))
-  unfolding round roundedAt IsFraction
+  pub round-cell : (mode : Mode) → round mode n x ≡ placed (isNegative (x .numerator)) (minus (t + i) o) n (wholeOf mode (isNegative (x .numerator)) (2 * F + bitOf rest) (2 * (2 * 2 ^ (t - n))))
+  unfolding round roundedAt
   round-cell mode =
       rw (
         not-zero,
@@ -98,8 +93,8 @@ module _ (x : Fraction) (rest : Bool) (i o F t n : ℕ) (b0 : IsFraction x) (n0 
         whole-at rest (natAbs (x .numerator)) (x .denominator) i o F t n b0 n0 fine t0 t1 h mode (isNegative (x .numerator)),
       )
 
-  pub claim-cell : claimed n x ≡ judged (isWorkingExponent (minus (t + i) o)) (eqb ((2 * F + digit rest) % (2 * (2 * 2 ^ (t - n)))) 0) (round Trunc n x)
-  unfolding claimed IsFraction
+  pub claim-cell : claimed n x ≡ judged (isWorkingExponent (minus (t + i) o)) (eqb ((2 * F + bitOf rest) % (2 * (2 * 2 ^ (t - n)))) 0) (round Trunc n x)
+  unfolding claimed
   claim-cell =
       rw (
         not-zero,
@@ -115,7 +110,7 @@ module _ (x y : Fraction) (rest : Bool) (i o F : ℕ) (x0 : IsFraction x) (y0 : 
       let b = top-bit F (lt-of-lt-of-le (pow-pos n) fine) in
       let l : n ≤ b .0 = below-top n (b .0) F fine (b .2) in
       round-cell x rest i o F (b .0) n x0 n0 l (b .1) (b .2) hx mode
-      ∙ ap (λ (s : Bool). placed s (minus (b .0 + i) o) n (wholeOf mode s (2 * F + digit rest) (2 * (2 * 2 ^ (b .0 - n))))) sign
+      ∙ ap (λ (s : Bool). placed s (minus (b .0 + i) o) n (wholeOf mode s (2 * F + bitOf rest) (2 * (2 * 2 ^ (b .0 - n))))) sign
       ∙ sym (round-cell y rest i o F (b .0) n y0 n0 l (b .1) (b .2) hy mode)
 
   pub same-cell : (n : ℕ) → 1 ≤ n → 2 ^ n ≤ F → RoundedAlike n x y
@@ -126,12 +121,12 @@ module _ (x y : Fraction) (rest : Bool) (i o F : ℕ) (x0 : IsFraction x) (y0 : 
         rounds = λ mode. same-round mode n n0 fine;
         claims =
             claim-cell x rest i o F (b .0) n x0 n0 l (b .1) (b .2) hx
-            ∙ ap (judged (isWorkingExponent (minus (b .0 + i) o)) (eqb ((2 * F + digit rest) % (2 * (2 * 2 ^ (b .0 - n)))) 0)) (same-round Trunc n n0 fine)
+            ∙ ap (judged (isWorkingExponent (minus (b .0 + i) o)) (eqb ((2 * F + bitOf rest) % (2 * (2 * 2 ^ (b .0 - n)))) 0)) (same-round Trunc n n0 fine)
             ∙ sym (claim-cell y rest i o F (b .0) n y0 n0 l (b .1) (b .2) hy);
       }
 
 -- and so every task has one outcome
 pub one-outcome : (task : Task) (x y : Fraction) → RoundedAlike (precisionOf task) x y → rounded task x ≡ rounded task y
-unfolding rounded precisionOf
+unfolding rounded
 one-outcome (Round r) x y h = ap checked (h .rounds (r .mode))
 one-outcome (Exact c) x y h = h .claims

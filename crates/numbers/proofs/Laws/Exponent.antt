@@ -1,48 +1,21 @@
 -- The exponent of a fraction is the one that its two inequalities name. Exponents are written i - o, with naturals i and o, so that
 -- everything is decided among the naturals.
-use mathlib.Core.Path.{_≡_, refl, ap, sym, _∙_}
-use mathlib.Core.Bool.{Bool, true, false, not, cond}
+use mathlib.Core.Path.{_≡_, refl, ap, _∙_}
 use mathlib.Core.Logic.{_⊎_, inl, inr, ⊎-elim}
 use Prim.Native.Nat.{ℕ, zero, suc, _+_, _*_, _-_, _^_, _≤_, _<_}
 use native.Mathlib.Omega.{arith}
-use native.Mathlib.Nat.{mul-le-mul-right, mul-lt-mul-of-pos-right, le-of-lt, lt-of-lt-of-le, lt-of-le-of-lt, lt-of-mul-lt-mul-right, le-of-mul-le-mul-right, lt-of-not-le, pow-succ'}
+use native.Mathlib.Nat.{mul-pos, mul-le-mul-right, mul-lt-mul-of-pos-right, le-of-lt, lt-of-lt-of-le, lt-of-le-of-lt, lt-of-mul-lt-mul-right, le-of-mul-le-mul-right, lt-of-not-le, pow-succ'}
 use native.Mathlib.Decide.{decLe}
-use lib.IntN.{ℤ, pos, negsuc, sucℤ, predℤ, suc-pred}
-use lib.Dec.{T, leb, leb→le, nleb→lt, leb·zero, leb·suc-zero}
+use lib.IntN.{ℤ, pos, negsuc, sucℤ}
+use lib.Dec.{leb, leb·zero, leb·suc-zero}
 use lib.Pow.{pow-add, pow-pos}
 use lib.Ieee.{size, up, down, minus}
 use lib.Ieee.Digits.{size-lt, size-reaches, minus-val}
-use lib.Ieee.Fits.{down-pos}
+use lib.Ieee.Fits.{up-pos, down-pos}
 use borrow.Author.Tests.{le-leb, lt-leb}
-use Rattle.numbers.specs.Rounding.{exponentOf, settled}
+use Rattle.numbers.specs.Rounding.{exponentOf, settled, scaledDenominator}
+use Rattle.numbers.proofs.Laws.Minus.{minus-same, pred-minus}
 use Rattle.numbers.proofs.Laws.Powers.{pow-below, top-bit}
-
--- i - o depends on the difference alone
-pub minus-same : (i o j p : ℕ) → i + p ≡ j + o → minus i o ≡ minus j p
-minus-same i o j p e = go (leb o i) (leb→le o i) (nleb→lt o i) (leb p j) (leb→le p j) (nleb→lt p j)
-  where
-    go : (s : Bool) → (T s → o ≤ i) → (T (not s) → i < o) → (t : Bool) → (T t → p ≤ j) → (T (not t) → j < p)
-        → cond s (pos (i - o)) (negsuc (o - suc i)) ≡ cond t (pos (j - p)) (negsuc (p - suc j))
-    go true h k true h' k' = ap pos (let a : o ≤ i = h tt in let b : p ≤ j = h' tt in omega arith)
-    go true h k false h' k' = absurd (let a : o ≤ i = h tt in let b : j < p = k' tt in omega arith)
-    go false h k true h' k' = absurd (let a : i < o = k tt in let b : p ≤ j = h' tt in omega arith)
-    go false h k false h' k' = ap negsuc (let a : i < o = k tt in let b : j < p = k' tt in omega arith)
-
--- one less
-pub pred-minus : (i o : ℕ) → predℤ (minus i o) ≡ minus i (suc o)
-pred-minus i o = go (leb o i) (leb→le o i) (nleb→lt o i)
-  where
-    at : (n : ℕ) → i ≡ o + n → predℤ (pos n) ≡ minus i (suc o)
-    at zero e = rw (lt-leb (suc o) i (omega arith)) (ap negsuc (omega arith))
-    at (suc n) e = rw (le-leb (suc o) i (omega arith)) (ap pos (omega arith))
-
-    go : (s : Bool) → (T s → o ≤ i) → (T (not s) → i < o) → predℤ (cond s (pos (i - o)) (negsuc (o - suc i))) ≡ minus i (suc o)
-    go true h k = at (i - o) (let a : o ≤ i = h tt in omega arith)
-    go false h k = rw (lt-leb (suc o) i (let a : i < o = k tt in omega arith)) (ap negsuc (let a : i < o = k tt in omega arith))
-
--- one more
-pub suc-minus : (i o : ℕ) → sucℤ (minus i o) ≡ minus (suc i) o
-suc-minus i o = ap sucℤ (minus-same i o (suc i) (suc o) (omega arith) ∙ sym (pred-minus (suc i) o)) ∙ suc-pred (minus (suc i) o)
 
 -- the two digit counts differ by the exponent or by one more
 sizes : (a b i o s t : ℕ) → 2 ^ s ≤ a → a < 2 ^ suc s → 2 ^ t ≤ b → b < 2 ^ suc t → b * 2 ^ i ≤ a * 2 ^ o → a * 2 ^ o < 2 * (b * 2 ^ i)
@@ -101,7 +74,7 @@ exponent-named a b (negsuc k) a0 b0 h l = exponent-unique a b 0 (suc k) a0 b0 h 
 
 -- and the exponent fulfils both: the difference of the two top bits does, or one less
 module _ (a b : ℕ) (a0 : 0 < a) (b0 : 0 < b) where
-  reached : (i : ℕ) × (o : ℕ) × (b * 2 ^ i ≤ a * 2 ^ o) × (a * 2 ^ o < 2 * (b * 2 ^ i))
+  pub reached : (i : ℕ) × (o : ℕ) × (b * 2 ^ i ≤ a * 2 ^ o) × (a * 2 ^ o < 2 * (b * 2 ^ i))
   reached = go (top-bit a a0) (top-bit b b0)
     where
       go : (t : ℕ) × (2 ^ t ≤ a) × (a < 2 ^ suc t) → (t : ℕ) × (2 ^ t ≤ b) × (b < 2 ^ suc t)
@@ -114,7 +87,7 @@ module _ (a b : ℕ) (a0 : 0 < a) (b0 : 0 < b) where
               let l : a * 2 ^ t < b * 2 ^ s = lt-of-not-le n in
               (s, suc t, omega (arith, mul-le-mul-right (2 ^ s) most, mul-le-mul-right (2 ^ suc t) low, ap (λ (m : ℕ). a * m) (pow-succ' 2 t)), omega (arith, ap (λ (m : ℕ). a * m) (pow-succ' 2 t)))
 
-  named : exponentOf a b ≡ minus (reached .0) (reached .1)
+  pub named : exponentOf a b ≡ minus (reached .0) (reached .1)
   named = exponent-unique a b (reached .0) (reached .1) a0 b0 (reached .2) (reached .3)
 
   pub exponent-reaches : b * up (exponentOf a b) ≤ a * down (exponentOf a b)
@@ -128,3 +101,8 @@ pub up-suc : (e : ℤ) → up (sucℤ e) * down e ≡ 2 * up e * down (sucℤ e)
 up-suc (pos k) = omega (arith, pow-succ' 2 k)
 up-suc (negsuc zero) = refl
 up-suc (negsuc (suc k)) = omega (arith, pow-succ' 2 (suc k))
+
+-- a scaled denominator is above 0
+pub scaled-positive : (e : ℤ) (b : ℕ) → 0 < b → 0 < scaledDenominator e b
+unfolding scaledDenominator
+scaled-positive e b b0 = mul-pos b0 (up-pos e)

@@ -3,17 +3,16 @@ use mathlib.Core.Path.{_≡_, refl, sym, ap}
 use mathlib.Core.Bool.{Bool, true, false, cond, and-eq-true-iff}
 use Prim.Native.Nat.{ℕ, zero, suc, _+_, _-_, _*_, _/_, _%_, _^_, _≤_, _<_}
 use native.Mathlib.Decide.{ℕ-discrete}
-use native.Mathlib.Nat.{le-of-eq, le-trans, lt-of-lt-of-le, mul-pos, mul-le-mul-right, mul-lt-mul-of-pos-right, le-div-iff-mul-le, div-lt-iff-lt-mul}
+use native.Mathlib.Nat.{le-of-eq, le-trans, lt-of-lt-of-le, mul-le-mul-right, mul-lt-mul-of-pos-right, le-div-iff-mul-le, div-lt-iff-lt-mul}
 use native.Mathlib.Omega.{arith}
 use borrow.Author.Tests.{le-leb, lt-ltb, eq-eqb, ne-eqb}
 use lib.Dec.{eqb}
 use lib.IntN.{ℤ, natAbs, sucℤ}
 use lib.Ieee.{up}
-use lib.Ieee.Fits.{up-pos}
 use lib.Pow.{pow-pos}
 use Rattle.numbers.specs.Number.{isSignificand, isFit, isWorkingExponent, isWorking}
-use Rattle.numbers.specs.Fraction.{Fraction, IsFraction}
-use Rattle.numbers.specs.Rounding.{exponentOf, scaledNumerator, scaledDenominator, goesUp, wholeOf, placed, roundedAt, isNegative, round, hasAtMostBits, byMode, precisionOf}
+use Rattle.numbers.specs.Fraction.{Fraction, IsFraction, isNegative}
+use Rattle.numbers.specs.Rounding.{exponentOf, scaledNumerator, scaledDenominator, goesUp, wholeOf, placed, roundedAt, round, hasAtMostBits, byMode, precisionOf}
 use Rattle.numbers.specs.Answer.{given, refused, checked, claimed, rounded, judged}
 use Rattle.numbers.specs.declared.number.Number.{Number}
 use Rattle.numbers.specs.declared.number.Number.the-variants.{Zero, Finite}
@@ -21,14 +20,11 @@ use Rattle.numbers.specs.declared.task.Mode.{Mode}
 use Rattle.numbers.specs.declared.task.Mode.the-variants.{Trunc}
 use Rattle.numbers.specs.declared.task.Task.{Task}
 use Rattle.numbers.specs.declared.task.Task.the-variants.{Round, Exact}
-use Rattle.numbers.proofs.Laws.Exponent.{exponent-reaches, exponent-below}
+use Rattle.numbers.proofs.Laws.Exponent.{exponent-reaches, exponent-below, scaled-positive}
 use Rattle.numbers.proofs.Laws.Powers.{power-twice, word-parts, word-power}
+use Rattle.numbers.proofs.Laws.Tests.{never, at-most-one}
 
 -- the whole number is the quotient, or one more
-pub at-most-one : (b : Bool) → cond b 1 0 ≤ 1
-at-most-one true = omega arith
-at-most-one false = omega arith
-
 whole-low : (mode : Mode) (s : Bool) (a b : ℕ) → a / b ≤ wholeOf mode s a b
 unfolding wholeOf
 whole-low mode s a b = omega arith
@@ -73,21 +69,17 @@ module _ (a b n : ℕ) (a0 : 0 < a) (b0 : 0 < b) (n0 : 1 ≤ n) where
   scaled-high =
       omega (arith, mul-lt-mul-of-pos-right {k = 2 ^ (n - 1)} (exponent-below a b a0 b0) (pow-pos (n - 1)), ap (λ (m : ℕ). m * (b * up (exponentOf a b))) (power-twice n n0))
 
-  bottom0 : 0 < scaledDenominator (exponentOf a b) b
-  unfolding scaledDenominator
-  bottom0 = mul-pos b0 (up-pos (exponentOf a b))
-
 -- what a nonzero fraction is rounded to: the sign and the exponent are its own, and the whole number has n bits, or carries
 pub round-placed : (mode : Mode) (n : ℕ) (x : Fraction) → IsFraction x → 1 ≤ n → 0 < natAbs (x .numerator)
     → (q : ℕ) × (round mode n x ≡ placed (isNegative (x .numerator)) (exponentOf (natAbs (x .numerator)) (x .denominator)) n q) × (2 ^ (n - 1) ≤ q) × (q ≤ 2 ^ n)
-unfolding IsFraction round roundedAt
+unfolding round roundedAt
 round-placed mode n x b0 n0 m0 =
     let m = natAbs (x .numerator) in
     let s = isNegative (x .numerator) in
     let e = exponentOf m (x .denominator) in
     let A = scaledNumerator n e m in
     let B = scaledDenominator e (x .denominator) in
-    let B0 : 0 < B = bottom0 m (x .denominator) n m0 b0 n0 in
+    let B0 : 0 < B = scaled-positive e (x .denominator) b0 in
     let low : 2 ^ (n - 1) ≤ A / B = le-div-iff-mul-le B0 .1 (scaled-low m (x .denominator) n m0 b0 n0) in
     let high : A / B < 2 ^ n = div-lt-iff-lt-mul B0 .1 (scaled-high m (x .denominator) n m0 b0 n0) in
     (wholeOf mode s A B, rw (ne-eqb m 0 (λ (z : m ≡ 0). omega arith)), le-trans low (whole-low mode s A B), le-trans (whole-high mode s A B) (grown high))
@@ -108,12 +100,12 @@ round-fits mode n x b0 n0 n1 = go (natAbs (x .numerator)) refl
         rw (r .1, p .2) (p .3)
 
 pub zero-working : isWorking Zero ≡ true
-unfolding isWorking isFit
+unfolding isFit
 zero-working = refl
 
 -- a number that passes row 7 is working
 checked-working : (y z : Number) → isFit (λ (e : ℤ). true) y ≡ true → checked y ≡ given z → isWorking z ≡ true
-unfolding isFit isWorking checked
+unfolding isFit checked
 checked-working Zero z h k = rw (sym (same z k))
   where
     same : (z : Number) → given Zero ≡ given z → Zero ≡ z
@@ -122,11 +114,11 @@ checked-working (Finite s e S) z h k = go (isWorkingExponent e) refl k
   where
     go : (w : Bool) → isWorkingExponent e ≡ w → cond w (given (Finite s e S)) (refused 7) ≡ given z → isWorking z ≡ true
     go true w k = let l : z ≡ Finite s e S = cc in rw (l, w) h
-    go false w k = absurd (let z : _≡_ {A = ℕ} 0 1 = cc in omega arith)
+    go false w k = never cc
 
 -- trunc keeps the exponent, so a claim that passes row 7 is working
 trunc-working : (n : ℕ) (x : Fraction) → IsFraction x → 1 ≤ n → n ≤ 64 → isWorkingExponent (exponentOf (natAbs (x .numerator)) (x .denominator)) ≡ true → isWorking (round Trunc n x) ≡ true
-unfolding IsFraction isFit isWorking round roundedAt wholeOf goesUp placed
+unfolding isFit round roundedAt wholeOf goesUp placed
 trunc-working n x b0 n0 n1 w = go (natAbs (x .numerator)) refl (round-fits Trunc n x b0 n0 n1)
   where
     go : (a : ℕ) → natAbs (x .numerator) ≡ a → isFit (λ (e : ℤ). true) (round Trunc n x) ≡ true → isWorking (round Trunc n x) ≡ true
@@ -136,7 +128,7 @@ trunc-working n x b0 n0 n1 w = go (natAbs (x .numerator)) refl (round-fits Trunc
         let e = exponentOf m (x .denominator) in
         let m0 : 0 < m = omega arith in
         let q = scaledNumerator n e m / scaledDenominator e (x .denominator) in
-        let high : q < 2 ^ n = div-lt-iff-lt-mul (bottom0 m (x .denominator) n m0 b0 n0) .1 (scaled-high m (x .denominator) n m0 b0 n0) in
+        let high : q < 2 ^ n = div-lt-iff-lt-mul (scaled-positive e (x .denominator) b0) .1 (scaled-high m (x .denominator) n m0 b0 n0) in
         let some = ne-eqb m 0 (λ (z : m ≡ 0). omega arith) in
         let stays = ne-eqb (q + 0) (2 ^ n) (λ (z : q + 0 ≡ 2 ^ n). omega arith) in
         rw (some, stays, w) (rw (some, stays) at f)
@@ -149,12 +141,12 @@ claimed-working n x y x0 n0 n1 h =
     go : (z w b : Bool) → isWorkingExponent (exponentOf (natAbs (x .numerator)) (x .denominator)) ≡ w → cond z (given Zero) (cond w (cond b (given (round Trunc n x)) (refused 8)) (refused 7)) ≡ given y → isWorking y ≡ true
     go true w b e k = let l : y ≡ Zero = cc in rw l zero-working
     go false true true e k = let l : y ≡ round Trunc n x = cc in rw l (trunc-working n x x0 n0 n1 e)
-    go false true false e k = absurd (let z : _≡_ {A = ℕ} 0 1 = cc in omega arith)
-    go false false b e k = absurd (let z : _≡_ {A = ℕ} 0 1 = cc in omega arith)
+    go false true false e k = never cc
+    go false false b e k = never cc
 
 -- what a task gives is a working number
 pub given-working : (task : Task) (x : Fraction) (y : Number) → IsFraction x → 1 ≤ precisionOf task → precisionOf task ≤ 64 → rounded task x ≡ given y → isWorking y ≡ true
-unfolding rounded precisionOf
+unfolding rounded
 given-working (Round r) x y x0 n0 n1 h = checked-working (round (r .mode) (r .precision) x) y (round-fits (r .mode) (r .precision) x x0 n0 n1) h
 given-working (Exact c) x y x0 n0 n1 h = claimed-working (c .precision) x y x0 n0 n1 h
 
@@ -165,13 +157,13 @@ given-round mode n x y h = go (round mode n x) h
   where
     inside : (z : Number) (working : Bool) → cond working (given z) (refused 7) ≡ given y → y ≡ z
     inside z true h = cc
-    inside z false h = absurd (let o : _≡_ {A = ℕ} 0 1 = cc in omega arith)
+    inside z false h = never cc
 
     go : (z : Number) → checked z ≡ given y → y ≡ z
     go Zero h = cc
     go (Finite s e S) h = inside (Finite s e S) (isWorkingExponent e) h
 
 pub working-checked : (z : Number) → isWorking z ≡ true → checked z ≡ given z
-unfolding checked isWorking isFit
+unfolding checked isFit
 working-checked Zero h = refl
 working-checked (Finite s e S) h = rw (and-eq-true-iff (isWorkingExponent e) (isSignificand S) .0 h .0)

@@ -7,11 +7,12 @@ use Rattle.numbers.specs.Fraction.{Fraction, value, sum, difference}
 use Rattle.numbers.specs.Number.{isFit, isWorking, negated}
 use Rattle.numbers.specs.declared.number.Number.{Number}
 use Rattle.numbers.specs.declared.number.Number.the-variants.{Zero, Finite}
-use Rattle.numbers.proofs.Laws.Fractions.{fraction, opposite, difference-sum}
-use Rattle.numbers.proofs.Laws.Signs.{neg-signed}
+use Rattle.numbers.proofs.Laws.Pairs.{fraction}
+use Rattle.numbers.proofs.Laws.Splits.{neg-signed}
+use Rattle.numbers.proofs.Laws.Fractions.{opposite, difference-sum}
 
 pub negated-working : (x : Number) → isWorking (negated x) ≡ isWorking x
-unfolding negated isWorking isFit
+unfolding negated isFit
 negated-working Zero = refl
 negated-working (Finite s e S) = refl
 

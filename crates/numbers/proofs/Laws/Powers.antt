@@ -10,22 +10,23 @@ use lib.Ieee.Digits.{size-lt, size-reaches}
 use lib.IntN.{ℤ, pos, negsuc}
 use lib.Pow.{pow-add, pow-mono}
 
+-- a power by its exponent's parts
+pub power-sum : (c a b : ℕ) → c ≡ a + b → 2 ^ c ≡ 2 ^ a * 2 ^ b
+power-sum c a b e = ap (λ (n : ℕ). 2 ^ n) e ∙ pow-add 2 a b
+
 -- 2^(n - 1) × 2 × 2^(t - n) is 2^t
 pub power-parts : (n t : ℕ) → 1 ≤ n → n ≤ t → 2 ^ (n - 1) * (2 * 2 ^ (t - n)) ≡ 2 ^ t
-power-parts n t n0 h =
-    ap (λ (m : ℕ). 2 ^ (n - 1) * m) (sym (pow-succ' 2 (t - n)))
-    ∙ sym (pow-add 2 (n - 1) (suc (t - n)))
-    ∙ ap (λ (m : ℕ). 2 ^ m) (let e : n - 1 + suc (t - n) ≡ t = omega arith in e)
+power-parts n t n0 h = omega (arith, pow-succ' 2 (t - n), power-sum t (n - 1) (suc (t - n)) (omega arith), ap (λ (m : ℕ). 2 ^ (n - 1) * m) (pow-succ' 2 (t - n)))
 
 -- twice 2^(n - 1) is 2^n, and in a word 2^(n - 1) is followed by 64 - n bits
 pub power-twice : (n : ℕ) → 1 ≤ n → 2 ^ n ≡ 2 * 2 ^ (n - 1)
-power-twice n n0 = ap (λ (m : ℕ). 2 ^ m) (let e : n ≡ suc (n - 1) = omega arith in e) ∙ pow-succ' 2 (n - 1)
+power-twice n n0 = power-sum n 1 (n - 1) (omega arith)
 
 pub word-parts : (n : ℕ) → 1 ≤ n → n ≤ 64 → 2 ^ (n - 1) * 2 ^ (64 - n) ≡ 2 ^ 63
-word-parts n n0 n1 = omega (arith, power-parts n 64 n0 n1)
+word-parts n n0 n1 = sym (power-sum 63 (n - 1) (64 - n) (omega arith))
 
 pub word-power : (n : ℕ) → n ≤ 64 → 2 ^ n * 2 ^ (64 - n) ≡ 2 ^ 64
-word-power n h = sym (pow-add 2 n (64 - n)) ∙ ap (λ (m : ℕ). 2 ^ m) (let l : n + (64 - n) ≡ 64 = omega arith in l)
+word-power n h = sym (power-sum 64 n (64 - n) (omega arith))
 
 -- a number is below its own power
 pub below-power : (n : ℕ) → n < 2 ^ n
@@ -78,5 +79,4 @@ down-power (negsuc k) = (suc k, refl)
 pub powers-divide : (A B : ℕ) → IsPower A → IsPower B → A < 2 * B → (t : ℕ) × (B ≡ t * A)
 powers-divide A B (a, e) (b, f) h =
     let l : a < suc b = pow-below a (suc b) (rw (pow-succ' 2 b, ← e, ← f) h) in
-    let k : b ≡ b - a + a = omega arith in
-    (2 ^ (b - a), f ∙ ap (λ (n : ℕ). 2 ^ n) k ∙ pow-add 2 (b - a) a ∙ ap (λ (n : ℕ). 2 ^ (b - a) * n) (sym e))
+    (2 ^ (b - a), f ∙ power-sum b (b - a) a (omega arith) ∙ ap (λ (n : ℕ). 2 ^ (b - a) * n) (sym e))

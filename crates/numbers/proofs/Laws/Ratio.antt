@@ -33,7 +33,7 @@ ratio-order r true h = ratio-below (ratio-swap r) h
 pub ratio-same : {u v c p q d : ℕ} → Ratio u v c p q d → p ≡ q → u ≡ v
 ratio-same {u} {v} {c} {d = d} r h = eq-of-mul-eq-mul-right c (r .scale) u v (r .first ∙ ap (λ (m : ℕ). m * d) h ∙ sym (r .second))
 
-gap-times : (u v c : ℕ) → gap u v * c ≡ gap (u * c) (v * c)
+pub gap-times : (u v c : ℕ) → gap u v * c ≡ gap (u * c) (v * c)
 gap-times u v c = omega (arith, mul-sub c u v, mul-sub c v u)
 
 pub ratio-gap : {u v c p q d : ℕ} → Ratio u v c p q d → gap u v * c ≡ gap p q * d

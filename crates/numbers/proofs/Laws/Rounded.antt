@@ -5,27 +5,22 @@ use mathlib.Core.Bool.{Bool, true, false, cond}
 use Prim.Native.Nat.{ℕ, _-_, _*_, _^_, _≤_, _<_}
 use native.Mathlib.Omega.{arith}
 use native.Mathlib.Nat.{mul-pos}
-use lib.Dec.{T, eqb, eqb→eq, lit<}
+use lib.Dec.{T, eqb, eqb→eq}
 use lib.IntN.{ℤ, pos, natAbs, sucℤ, _*ℤ_}
 use lib.Pow.{pow-pos}
 use lib.Ieee.{up, down}
 use lib.Ieee.Fits.{up-pos, down-pos}
-use Rattle.numbers.specs.Fraction.{Fraction, IsFraction, value, difference, signed}
-use Rattle.numbers.specs.Rounding.{exponentOf, scaledNumerator, scaledDenominator, wholeOf, placed, roundedAt, isNegative, round}
+use Rattle.numbers.specs.Fraction.{Fraction, IsFraction, value, difference, signed, isNegative}
+use Rattle.numbers.specs.Rounding.{exponentOf, scaledNumerator, scaledDenominator, wholeOf, placed, roundedAt, round}
 use Rattle.numbers.specs.declared.number.Number.{Number}
 use Rattle.numbers.specs.declared.number.Number.the-variants.{Zero, Finite}
 use Rattle.numbers.specs.declared.task.Mode.{Mode}
+use Rattle.numbers.proofs.Laws.Splits.{signed-times, abs-difference}
 use Rattle.numbers.proofs.Laws.Powers.{power-twice, word-parts}
 use Rattle.numbers.proofs.Laws.Ratio.{Ratio, gap}
-use Rattle.numbers.proofs.Laws.Signs.{abs-signed, signed-abs, signed-zero, signed-times, abs-difference}
+use Rattle.numbers.proofs.Laws.Signs.{abs-signed, signed-abs, signed-zero}
 use Rattle.numbers.proofs.Laws.Exponent.{up-suc}
 use Rattle.numbers.proofs.Laws.Misses.{whole-exact}
-
--- the value of a number is a fraction
-pub value-fraction : (y : Number) → IsFraction (value y)
-unfolding IsFraction value
-value-fraction Zero = lit< tt
-value-fraction (Finite s e S) = mul-pos (pow-pos 63) (down-pos e)
 
 -- y is q × 2^(e − n + 1) with the sign s
 pub record IsUnits (y : Number) (s : Bool) (n : ℕ) (e : ℤ) (q : ℕ) : Type 0 where
@@ -68,18 +63,18 @@ units mode n s e a b b0 n0 n1 = go (eqb a 0) (eqb→eq a 0) (wholeOf mode s (sca
     go true h q k = record { sign = sym (signed-zero s); ratio = rw (k (h tt)) (omega arith) }
     go false h q k = placed-units s e n q n0 n1
 
--- the parts of a rounding: the exponent of x, its magnitude scaled, as `top` over `bottom`, and the whole number that this is made
+-- the parts of a rounding: the exponent of x, its magnitude scaled, as `numeratorAt` over `denominatorAt`, and the whole number that this is made
 abbrev pub exponent : Fraction → ℤ
 exponent x = exponentOf (natAbs (x .numerator)) (x .denominator)
 
-abbrev pub top : ℕ → Fraction → ℕ
-top n x = scaledNumerator n (exponent x) (natAbs (x .numerator))
+abbrev pub numeratorAt : ℕ → Fraction → ℕ
+numeratorAt n x = scaledNumerator n (exponent x) (natAbs (x .numerator))
 
-abbrev pub bottom : Fraction → ℕ
-bottom x = scaledDenominator (exponent x) (x .denominator)
+abbrev pub denominatorAt : Fraction → ℕ
+denominatorAt x = scaledDenominator (exponent x) (x .denominator)
 
 abbrev pub whole : Mode → ℕ → Fraction → ℕ
-whole mode n x = wholeOf mode (isNegative (x .numerator)) (top n x) (bottom x)
+whole mode n x = wholeOf mode (isNegative (x .numerator)) (numeratorAt n x) (denominatorAt x)
 
 -- the magnitudes of x and of its rounding, over one denominator
 abbrev pub before : Mode → ℕ → Fraction → ℕ
@@ -90,11 +85,11 @@ after mode n x = natAbs (value (round mode n x) .numerator) * x .denominator
 
 module _ (mode : Mode) (n : ℕ) (x : Fraction) (x0 : IsFraction x) (n0 : 1 ≤ n) (n1 : n ≤ 64) where
   pub round-units : IsUnits (round mode n x) (isNegative (x .numerator)) n (exponent x) (whole mode n x)
-  unfolding round IsFraction
+  unfolding round
   round-units = units mode n (isNegative (x .numerator)) (exponent x) (natAbs (x .numerator)) (x .denominator) x0 n0 n1
 
-  -- the rounding is to x as whole × bottom is to top
-  pub round-ratio : Ratio (after mode n x) (before mode n x) (2 ^ (n - 1) * down (exponent x)) (whole mode n x * bottom x) (top n x) (value (round mode n x) .denominator)
+  -- the rounding is to x as whole × denominatorAt is to numeratorAt
+  pub round-ratio : Ratio (after mode n x) (before mode n x) (2 ^ (n - 1) * down (exponent x)) (whole mode n x * denominatorAt x) (numeratorAt n x) (value (round mode n x) .denominator)
   unfolding scaledNumerator scaledDenominator
   round-ratio = record {
     scale = mul-pos (pow-pos (n - 1)) (down-pos (exponent x));

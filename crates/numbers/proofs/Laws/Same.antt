@@ -12,8 +12,8 @@ use Rattle.numbers.specs.declared.number.Number.{Number}
 use Rattle.numbers.specs.declared.number.Number.the-variants.{Zero, Finite}
 use Rattle.numbers.specs.declared.task.Mode.{Mode}
 use Rattle.numbers.specs.declared.task.Mode.the-variants.{Trunc}
+use Rattle.numbers.proofs.Laws.Scaled.{value-fraction}
 use Rattle.numbers.proofs.Laws.Bounds.{kept-number}
-use Rattle.numbers.proofs.Laws.Rounded.{value-fraction}
 use Rattle.numbers.proofs.Laws.Value.{value-alone}
 use Rattle.numbers.proofs.Laws.Working.{working-parts}
 

@@ -1,6 +1,6 @@
 -- Two tests are the same where each one's fact gives the other's; and what the test of a range says.
 use mathlib.Core.Path.{_≡_, refl, sym, _∙_}
-use mathlib.Core.Bool.{Bool, true, false, _&&_, and-eq-true-iff}
+use mathlib.Core.Bool.{cond, Bool, true, false, _&&_, and-eq-true-iff}
 use Prim.Native.Nat.{ℕ, zero, suc, _≤_, _<_}
 use native.Mathlib.Omega.{arith}
 use native.Mathlib.Decide.{decLe, ℕ-discrete}
@@ -41,3 +41,12 @@ pub one-test : (a b : Bool) → (a ≡ true → b ≡ true) → (b ≡ true → 
 one-test true b h k = sym (h refl)
 one-test false true h k = k refl
 one-test false false h k = refl
+
+-- a flag counts at most one
+pub at-most-one : (b : Bool) → cond b 1 0 ≤ 1
+at-most-one true = omega arith
+at-most-one false = omega arith
+
+-- Two constructors are never equal: `never cc` where the equations in scope say that they are.
+pub never : {A : Type 0} → _≡_ {A = ℕ} 0 1 → A
+never e = absurd (omega arith)

@@ -3,7 +3,7 @@ use mathlib.Core.Path.{_≡_, sym, ap, _∙_}
 use mathlib.Core.Bool.{Bool, false, cond}
 use Prim.Native.Nat.{ℕ, zero, suc, _+_, _-_, _*_, _/_, _%_, _^_, _≤_, _<_}
 use native.Mathlib.Omega.{arith}
-use native.Mathlib.Nat.{add-comm, add-zero, le-antisymm, le-of-eq, le-trans, lt-irrefl, lt-of-le-of-lt, lt-of-lt-of-le, mod-eq-of-lt, mul-assoc, mul-comm, mul-one, mul-le-mul, mul-lt-mul-of-pos-right, le-of-mul-le-mul-right, lt-of-mul-lt-mul-right, div-lt-iff-lt-mul, pow-succ'}
+use native.Mathlib.Nat.{add-comm, add-zero, le-antisymm, le-of-eq, le-trans, lt-irrefl, lt-of-le-of-lt, lt-of-lt-of-le, mod-eq-of-lt, mul-assoc, mul-comm, mul-one, mul-le-mul, mul-lt-mul-of-pos-right, le-of-mul-le-mul-right, lt-of-mul-lt-mul-right, div-lt-iff-lt-mul}
 use lib.Arith.{digits-div, digits-mod}
 use lib.Dec.{ltb, eqb}
 use lib.Ieee.{minus}
@@ -11,25 +11,24 @@ use lib.IntN.{ℤ, natAbs, sucℤ}
 use lib.Pow.{pow-add, pow-pos}
 use borrow.Author.Tests.{eq-eqb, ne-eqb}
 use Rattle.numbers.specs.Number.{isWorkingExponent}
-use Rattle.numbers.specs.Fraction.{IsFraction}
-use Rattle.numbers.specs.Rounding.{goesUp, wholeOf, placed, isNegative, round}
+use Rattle.numbers.specs.Fraction.{IsFraction, isNegative, scaled}
+use Rattle.numbers.specs.Rounding.{goesUp, wholeOf, placed, round}
 use Rattle.numbers.specs.Answer.{claimed, judged}
-use Rattle.numbers.specs.Grid.{InCell, digit}
+use Rattle.numbers.specs.Grid.{InCell, bitOf}
+use Rattle.numbers.specs.Cell.{wide}
 use Rattle.numbers.specs.declared.number.Number.the-variants.{Finite}
 use Rattle.numbers.specs.declared.task.Mode.{Mode}
 use Rattle.numbers.specs.declared.task.Mode.the-variants.{Trunc}
 use Rattle.numbers.proofs.Laws.Cell.{cell-ratio, round-cell, claim-cell}
-use Rattle.numbers.proofs.Laws.Powers.{word-power}
+use Rattle.numbers.proofs.Laws.Powers.{word-power, power-sum}
 use Rattle.numbers.proofs.Laws.Signs.{abs-signed, negative-signed}
 use Rattle.numbers.proofs.Laws.Tests.{zero-same}
-use Rattle.numbers.proofs.Laws.Value.{cell-of, whole-alone, fraction-alone}
-use Rattle.numbers.proofs.Laws.Whole.{whole-cell, fraction-cell, flagged}
-use Rattle.numbers.specs.Cell.{wide}
-use Rattle.numbers.specs.Magnitude.{scaledValue}
+use Rattle.numbers.proofs.Laws.Value.{whole-alone, fraction-alone}
+use Rattle.numbers.proofs.Laws.Whole.{whole-cell, fraction-cell, flagged, cell-of}
 
 -- 2^(128 - n) is a word above 2^(64 - n)
 pub word-above : (n : ℕ) → n ≤ 64 → 2 ^ (64 - n) * 2 ^ 64 ≡ 2 ^ (128 - n)
-word-above n h = sym (pow-add 2 (64 - n) 64) ∙ ap (λ (m : ℕ). 2 ^ m) (let e : 64 - n + 64 ≡ 128 - n = omega arith in e)
+word-above n h = sym (power-sum (128 - n) (64 - n) 64 (omega arith))
 
 module _ (F n high low : ℕ) (rest : Bool) (n1 : n ≤ 64) (word : low < 2 ^ 64)
     (shifted : wide high low ≡ F / 2 ^ (64 - n)) (dropped : rest ≡ ltb 0 (F % 2 ^ (64 - n))) where
@@ -47,13 +46,13 @@ module _ (F n high low : ℕ) (rest : Bool) (n1 : n ≤ 64) (word : low < 2 ^ 64
   unfolding wide
   lower = digits-mod high word
 
-  pub top-whole : (mode : Mode) (negative : Bool) → wholeOf mode negative F (2 ^ (128 - n)) ≡ high + cond (goesUp mode negative high (2 * low + digit rest) (2 ^ 65)) 1 0
+  pub top-whole : (mode : Mode) (negative : Bool) → wholeOf mode negative F (2 ^ (128 - n)) ≡ high + cond (goesUp mode negative high (2 * low + bitOf rest) (2 ^ 65)) 1 0
   unfolding wholeOf
   top-whole mode negative =
       whole-cell rest F (2 ^ (128 - n)) (wide high low) (2 ^ 63) (pow-pos (128 - n)) (pow-pos 63) cell mode negative
       ∙ rw (flagged rest (wide high low) (2 ^ 64) (pow-pos 64) .0, flagged rest (wide high low) (2 ^ 64) (pow-pos 64) .1, upper, lower)
 
-  pub top-bits : ltb 0 (F % 2 ^ (128 - n)) ≡ ltb 0 (2 * low + digit rest)
+  pub top-bits : ltb 0 (F % 2 ^ (128 - n)) ≡ ltb 0 (2 * low + bitOf rest)
   top-bits =
       fraction-cell rest F (2 ^ (128 - n)) (wide high low) (2 ^ 63) (pow-pos (128 - n)) (pow-pos 63) cell
       ∙ rw (flagged rest (wide high low) (2 ^ 64) (pow-pos 64) .1, lower)
@@ -119,33 +118,30 @@ module _ (negative : Bool) (F x z o n : ℕ) (n0 : 1 ≤ n) (n1 : n ≤ 64) (low
       positive zero b h = absurd (omega arith)
       positive (suc a) b h = omega arith
 
-  exact-cell : InCell false (natAbs (scaledValue negative F x o .numerator) * 2 ^ (o + z)) (F * 2 ^ z) (scaledValue negative F x o .denominator * 2 ^ x)
-  unfolding scaledValue
+  exact-cell : InCell false (natAbs (scaled negative F x o .numerator) * 2 ^ (o + z)) (F * 2 ^ z) (scaled negative F x o .denominator * 2 ^ x)
   exact-cell = rw (abs-signed negative (F * 2 ^ x), pow-add 2 o z) (omega arith)
 
-  is-fraction : IsFraction (scaledValue negative F x o)
-  unfolding IsFraction scaledValue
+  is-fraction : IsFraction (scaled negative F x o)
   is-fraction = pow-pos o
 
-  sign : isNegative (scaledValue negative F x o .numerator) ≡ negative
-  unfolding scaledValue
+  sign : isNegative (scaled negative F x o .numerator) ≡ negative
   sign = negative-signed negative (F * 2 ^ x) F0
 
   below-bit : n ≤ 127
   below-bit = omega arith
 
   quotient : (2 * (F * 2 ^ z) + 0) * 2 ^ (128 - n) ≡ F * 2 ^ z * (2 * (2 * 2 ^ (127 - n)))
-  quotient = omega (arith, ap (λ (m : ℕ). F * 2 ^ z * m) (ap (λ (m : ℕ). 2 ^ m) (let e : 128 - n ≡ suc (127 - n) = omega arith in e) ∙ pow-succ' 2 (127 - n)))
+  quotient = omega (arith, ap (λ (m : ℕ). F * 2 ^ z * m) (power-sum (128 - n) 1 (127 - n) (omega arith)))
 
-  bottom0 : 0 < 2 * (2 * 2 ^ (127 - n))
-  bottom0 = let p = pow-pos (127 - n) in omega arith
+  denominator0 : 0 < 2 * (2 * 2 ^ (127 - n))
+  denominator0 = let p = pow-pos (127 - n) in omega arith
 
-  pub round-top : (mode : Mode) → round mode n (scaledValue negative F x o) ≡ placed negative (minus (x + 127) (o + z)) n (wholeOf mode negative (F * 2 ^ z) (2 ^ (128 - n)))
+  pub round-top : (mode : Mode) → round mode n (scaled negative F x o) ≡ placed negative (minus (x + 127) (o + z)) n (wholeOf mode negative (F * 2 ^ z) (2 ^ (128 - n)))
   round-top mode =
-      round-cell (scaledValue negative F x o) false x (o + z) (F * 2 ^ z) 127 n is-fraction n0 below-bit low high exact-cell mode
-      ∙ rw (sign, add-comm 127 x, whole-alone (2 * (F * 2 ^ z) + 0) (2 * (2 * 2 ^ (127 - n))) (F * 2 ^ z) (2 ^ (128 - n)) bottom0 (pow-pos (128 - n)) quotient mode negative)
+      round-cell (scaled negative F x o) false x (o + z) (F * 2 ^ z) 127 n is-fraction n0 below-bit low high exact-cell mode
+      ∙ rw (sign, add-comm 127 x, whole-alone (2 * (F * 2 ^ z) + 0) (2 * (2 * 2 ^ (127 - n))) (F * 2 ^ z) (2 ^ (128 - n)) denominator0 (pow-pos (128 - n)) quotient mode negative)
 
-  pub claim-top : claimed n (scaledValue negative F x o) ≡ judged (isWorkingExponent (minus (x + 127) (o + z))) (eqb (F * 2 ^ z % 2 ^ (128 - n)) 0) (round Trunc n (scaledValue negative F x o))
+  pub claim-top : claimed n (scaled negative F x o) ≡ judged (isWorkingExponent (minus (x + 127) (o + z))) (eqb (F * 2 ^ z % 2 ^ (128 - n)) 0) (round Trunc n (scaled negative F x o))
   claim-top =
-      claim-cell (scaledValue negative F x o) false x (o + z) (F * 2 ^ z) 127 n is-fraction n0 below-bit low high exact-cell
-      ∙ rw (add-comm 127 x, zero-same ((2 * (F * 2 ^ z) + 0) % (2 * (2 * 2 ^ (127 - n)))) (F * 2 ^ z % 2 ^ (128 - n)) (fraction-alone (2 * (F * 2 ^ z) + 0) (2 * (2 * 2 ^ (127 - n))) (F * 2 ^ z) (2 ^ (128 - n)) bottom0 (pow-pos (128 - n)) quotient))
+      claim-cell (scaled negative F x o) false x (o + z) (F * 2 ^ z) 127 n is-fraction n0 below-bit low high exact-cell
+      ∙ rw (add-comm 127 x, zero-same ((2 * (F * 2 ^ z) + 0) % (2 * (2 * 2 ^ (127 - n)))) (F * 2 ^ z % 2 ^ (128 - n)) (fraction-alone (2 * (F * 2 ^ z) + 0) (2 * (2 * 2 ^ (127 - n))) (F * 2 ^ z) (2 ^ (128 - n)) denominator0 (pow-pos (128 - n)) quotient))

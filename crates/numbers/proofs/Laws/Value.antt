@@ -1,15 +1,14 @@
 -- Rounding depends on the value alone: two equal fractions are rounded alike. They lie in one cell of a grid that is chosen fine enough.
 use mathlib.Core.Path.{_≡_, refl, sym, ap, _∙_}
-use mathlib.Core.Bool.{Bool, true}
+use mathlib.Core.Bool.{Bool}
 use Prim.Native.Nat.{ℕ, zero, suc, _+_, _*_, _/_, _%_, _^_, _≤_, _<_}
 use native.Mathlib.Omega.{arith}
-use native.Mathlib.Nat.{le-of-lt, le-div-iff-mul-le, mul-le-mul, mul-le-mul-right, mod-lt, div-add-mod', eq-of-mul-eq-mul-right}
+use native.Mathlib.Nat.{le-of-lt, le-div-iff-mul-le, mul-le-mul, mul-le-mul-right, eq-of-mul-eq-mul-right}
 use lib.Dec.{ltb, lit<}
-use lib.IntN.{ℤ, pos, negsuc, natAbs, _*ℤ_}
+use lib.IntN.{natAbs}
 use lib.Pow.{pow-add}
-use borrow.Author.Tests.{lt-ltb}
-use Rattle.numbers.specs.Fraction.{Fraction, IsFraction, Equal, signed}
-use Rattle.numbers.specs.Rounding.{wholeOf, isNegative, round, precisionOf}
+use Rattle.numbers.specs.Fraction.{Fraction, IsFraction, Equal}
+use Rattle.numbers.specs.Rounding.{wholeOf, round, precisionOf}
 use Rattle.numbers.specs.Answer.{given, rounded, claimed, checked}
 use Rattle.numbers.specs.Grid.{InCell, RoundedAlike}
 use Rattle.numbers.specs.declared.number.Number.the-variants.{Zero}
@@ -17,17 +16,9 @@ use Rattle.numbers.specs.declared.task.Mode.{Mode}
 use Rattle.numbers.specs.declared.task.Task.{Task}
 use Rattle.numbers.specs.declared.task.Task.the-variants.{Round, Exact}
 use Rattle.numbers.proofs.Laws.Cell.{cell-ratio, same-cell, one-outcome}
-use Rattle.numbers.proofs.Laws.Signs.{abs-signed, negative-signed, signed-abs, signed-times}
-use Rattle.numbers.proofs.Laws.Whole.{whole-cell, fraction-cell}
+use Rattle.numbers.proofs.Laws.Whole.{cell-of, whole-cell, fraction-cell}
+use Rattle.numbers.proofs.Laws.Fractions.{equal-magnitudes, equal-signs}
 use Rattle.numbers.proofs.Laws.Powers.{below-power}
-
--- every number has a cell
-pub cell-of : (x u : ℕ) → 0 < u → InCell (ltb 0 (x % u)) x (x / u) u
-cell-of x u u0 = go (x % u) (div-add-mod' x u) (mod-lt x u0)
-  where
-    go : (r : ℕ) → x / u * u + r ≡ x → r < u → InCell (ltb 0 r) x (x / u) u
-    go zero e l = omega arith
-    go (suc r) e l = rw (lt-ltb 0 (suc r) (omega arith)) (omega arith, omega arith)
 
 -- what a / b is made a whole number to, and whether it is one, depend on the quotient alone
 module _ (a b c d : ℕ) (b0 : 0 < b) (d0 : 0 < d) (same : a * d ≡ c * b) where
@@ -54,25 +45,6 @@ unfolding rounded round claimed checked
 rounded-zero (Round r) x e = rw e
 rounded-zero (Exact c) x e = rw e
 
--- equal fractions: the magnitudes' cross products, and the signs
-abs-times : (z : ℤ) (d : ℕ) → natAbs (z *ℤ pos d) ≡ natAbs z * d
-unfolding signed
-abs-times (pos a) d = refl
-abs-times (negsuc a) d = abs-signed true (suc a * d)
-
-pub equal-magnitudes : (x y : Fraction) → Equal x y → natAbs (x .numerator) * y .denominator ≡ natAbs (y .numerator) * x .denominator
-unfolding Equal
-equal-magnitudes x y e = sym (abs-times (x .numerator) (y .denominator)) ∙ ap natAbs e ∙ abs-times (y .numerator) (x .denominator)
-
-sign-times : (z : ℤ) (d : ℕ) → 0 < d → isNegative (z *ℤ pos d) ≡ isNegative z
-unfolding signed isNegative
-sign-times (pos a) d d0 = refl
-sign-times (negsuc a) d d0 = negative-signed true (suc a * d) (omega (arith, mul-le-mul-right a d0, mul-le-mul-right d (let l : 1 ≤ suc a = omega arith in l)))
-
-pub equal-signs : (x y : Fraction) → IsFraction x → IsFraction y → Equal x y → isNegative (x .numerator) ≡ isNegative (y .numerator)
-unfolding Equal IsFraction
-equal-signs x y x0 y0 e = sym (sign-times (x .numerator) (y .denominator) y0) ∙ ap isNegative e ∙ sign-times (y .numerator) (x .denominator) x0
-
 -- the grid 1 / 2^(n + b) is fine enough for a / b
 fine-enough : (a b n : ℕ) → 0 < a → 0 < b → 2 ^ n ≤ a * 2 ^ (n + b) / (b * 2 ^ 0)
 fine-enough a b n a0 b0 =
@@ -81,7 +53,6 @@ fine-enough a b n a0 b0 =
 
 -- equal fractions are rounded alike, to any number of bits
 pub value-alone : (n : ℕ) (x y : Fraction) → 1 ≤ n → IsFraction x → IsFraction y → Equal x y → RoundedAlike n x y
-unfolding IsFraction
 value-alone n x y n0 x0 y0 e = go (natAbs (x .numerator)) refl
   where
     cross : natAbs (x .numerator) * y .denominator ≡ natAbs (y .numerator) * x .denominator
@@ -101,19 +72,3 @@ value-alone n x y n0 x0 y0 e = go (natAbs (x .numerator)) refl
 
 pub same-outcome : (task : Task) (x y : Fraction) → IsFraction x → IsFraction y → 1 ≤ precisionOf task → Equal x y → rounded task x ≡ rounded task y
 same-outcome task x y x0 y0 n0 e = one-outcome task x y (value-alone (precisionOf task) x y n0 x0 y0 e)
-
--- equal fractions, the other way round and one after the other
-pub equal-back : (x y : Fraction) → Equal x y → Equal y x
-unfolding Equal
-equal-back x y e = sym e
-
-pub equal-through : (x y z : Fraction) → IsFraction x → IsFraction y → IsFraction z → Equal x y → Equal y z → Equal x z
-unfolding Equal IsFraction
-equal-through x y z x0 y0 z0 e f =
-    rw (← signed-abs (x .numerator), ← signed-abs (z .numerator), equal-signs x y x0 y0 e ∙ equal-signs y z y0 z0 f)
-    (simp signed-times
-    (ap (signed (isNegative (z .numerator)))
-    (through (natAbs (x .numerator)) (natAbs (y .numerator)) (natAbs (z .numerator)) (x .denominator) (y .denominator) (z .denominator) y0 (equal-magnitudes x y e) (equal-magnitudes y z f))))
-  where
-    through : (a b c k l m : ℕ) → 0 < l → a * l ≡ b * k → b * m ≡ c * l → a * m ≡ c * k
-    through a b c k l m l0 p q = eq-of-mul-eq-mul-right l l0 (a * m) (c * k) (omega (arith, ap (λ (n : ℕ). n * m) p, ap (λ (n : ℕ). n * k) q))

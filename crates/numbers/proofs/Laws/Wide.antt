@@ -2,8 +2,8 @@
 use mathlib.Core.Path.{_≡_}
 use Prim.Native.Nat.{ℕ, _+_, _*_, _^_, _≤_, _<_}
 use native.Mathlib.Omega.{arith}
-use Rattle.numbers.proofs.Laws.Words.{high-lt}
 use Rattle.numbers.specs.Cell.{wide}
+use Rattle.numbers.proofs.Laws.Words.{high-lt}
 
 -- the sum of two magnitudes, where the sum of their low words carries d
 pub wide-sum : (d ah al bh bl h l : ℕ) → ah + bh + d ≡ h → al + bl ≡ l + d * 2 ^ 64 → wide ah al + wide bh bl ≡ wide h l

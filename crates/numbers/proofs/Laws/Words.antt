@@ -1,14 +1,15 @@
 -- Numbers of two words, high * w + low, at any size w of a word: what products and shifts make of them.
-use mathlib.Core.Path.{_≡_, refl, sym, ap, _∙_}
+use mathlib.Core.Path.{_≡_, refl, sym, _∙_}
 use mathlib.Core.Bool.{true, false}
 use Prim.Native.Nat.{ℕ, zero, suc, _+_, _-_, _*_, _/_, _%_, _^_, _≤_, _<_}
-use native.Mathlib.Nat.{le-add-right, le-trans, le-of-suc-le-suc, lt-of-le-of-lt, zero-lt-suc, lt-of-mul-lt-mul-right, sub-add-cancel, add-zero, zero-mul, mul-comm, mul-pos, mul-le-mul, mul-le-mul-right, mul-mod-left, mul-div-cancel, mul-div-mul-right, mul-add-div-right, mul-add-mod-self-right, mod-lt, mod-one, mod-eq-of-lt, div-one, div-eq-of-lt, div-lt-iff-lt-mul, div-add-mod', div-div-eq-div-mul, pos-of-ne-zero, suc-add}
+use native.Mathlib.Nat.{le-add-right, le-trans, le-of-suc-le-suc, lt-of-le-of-lt, zero-lt-suc, lt-of-mul-lt-mul-right, add-zero, zero-mul, mul-comm, mul-pos, mul-le-mul, mul-le-mul-right, mul-mod-left, mul-div-cancel, mul-div-mul-right, mul-add-div-right, mul-add-mod-self-right, mod-lt, mod-one, mod-eq-of-lt, div-one, div-eq-of-lt, div-lt-iff-lt-mul, div-add-mod', div-div-eq-div-mul, pos-of-ne-zero, suc-add}
 use native.Mathlib.Omega.{arith}
 use lib.Count.{leadingZeros, leading-top}
 use lib.Dec.{ltb}
 use lib.Arith.{digits-lt, digits-div, digits-mod, mod-mul}
 use lib.Pow.{pow-add, pow-pos, shl-lt}
 use borrow.Author.Tests.{lt-ltb}
+use Rattle.numbers.proofs.Laws.Powers.{power-sum}
 
 -- a product of two digits to the base P leaves room for two more
 pub digits-product : (P x y : ℕ) → x < P → y < P → x * y + 2 * P ≤ P * P + 1
@@ -37,7 +38,7 @@ pub powers : (k n : ℕ) → k ≤ n → Factors (2 ^ n) (2 ^ (n - k)) (2 ^ k)
 powers k n h = record {
   left-pos = pow-pos (n - k);
   right-pos = pow-pos k;
-  product = sym (pow-add 2 (n - k) k) ∙ ap (λ (x : ℕ). 2 ^ x) (sub-add-cancel h);
+  product = sym (power-sum n (n - k) k (omega arith));
 }
 
 -- a shift right by no bits drops nothing

@@ -1,9 +1,9 @@
 -- The pieces of an input: how it is cut into them, and those behind a piece are the pieces of what is left behind it.
 use mathlib.Core.List.{List, [], _∷_, _++_}
-use mathlib.Core.Path.{_≡_, refl, subst, ap, _∙_}
+use mathlib.Core.Path.{_≡_, refl, sym, subst, _∙_}
 use Prim.Native.Nat.{ℕ, zero, suc, min, _+_, _*_, _-_, _≤_, _<_}
 use native.Mathlib.Decide.{decLe}
-use native.Mathlib.Nat.{le-refl, lt-of-not-le, not-suc-le-zero}
+use native.Mathlib.Nat.{le-refl, lt-of-not-le}
 use native.Mathlib.Omega.{arith}
 use lib.ListN.{length, take, drop, length-take, length-drop, length-append, take-append-drop}
 use lib.Seq.{length-take-le, take-all, take-append-le, drop-append-le, take-take, drop-drop}
@@ -13,34 +13,30 @@ use Rattle.blocks.proofs.Laws.Lists.{All, take-least, drop-least, take-drop}
 use Rattle.reporting.specs.Report.{piecesBy, piecesOf}
 use Rattle.reporting.specs.Demand.{AreCut, at-end, full, short}
 
--- the count that runs out does not matter while it is at least the length
-enough : (m n : ℕ) (input : List ℕ) → length input ≤ m → length input ≤ n → piecesBy m input ≡ piecesBy n input
-unfolding piecesBy
-enough zero zero input h k = refl
-enough zero (suc n) [] h k = refl
-enough zero (suc n) (b ∷ input) h k = absurd (not-suc-le-zero h)
-enough (suc m) zero [] h k = refl
-enough (suc m) zero (b ∷ input) h k = absurd (not-suc-le-zero k)
-enough (suc m) (suc n) [] h k = refl
-enough (suc m) (suc n) (b ∷ input) h k =
-    let less = length-drop 512 (b ∷ input) in
-    ap (λ (rest : List (List ℕ)). take 512 (b ∷ input) ∷ rest) (enough m n (drop 512 (b ∷ input)) (rw less (omega (arith, h))) (rw less (omega (arith, k))))
-
-no-bytes : (xs : List ℕ) → length xs ≡ 0 → xs ≡ []
-no-bytes [] e = refl
-no-bytes (x ∷ xs) e = absurd (not-suc-le-zero (let h : suc (length xs) ≤ 0 = omega (arith, e) in h))
-
 none-by : (most : ℕ) → piecesBy most [] ≡ []
 unfolding piecesBy
 none-by zero = refl
 none-by (suc most) = refl
 
+-- the count that runs out does not matter while it is at least the length
+enough : (m n : ℕ) (input : List ℕ) → length input ≤ m → length input ≤ n → piecesBy m input ≡ piecesBy n input
+unfolding piecesBy
+enough zero n [] h k = sym (none-by n)
+enough zero n (b ∷ input) h k = absurd (omega arith)
+enough (suc m) n [] h k = sym (none-by n)
+enough (suc m) zero (b ∷ input) h k = absurd (omega arith)
+enough (suc m) (suc n) (b ∷ input) h k = rw (enough m n (drop 512 (b ∷ input)) (rw length-drop (omega arith)) (rw length-drop (omega arith)))
+
+no-bytes : (xs : List ℕ) → length xs ≡ 0 → xs ≡ []
+no-bytes [] e = refl
+no-bytes (x ∷ xs) e = absurd (omega arith)
+
 pub first-piece : (input : List ℕ) → 0 < length input → piecesOf input ≡ take 512 input ∷ piecesOf (drop 512 input)
 unfolding piecesOf piecesBy
-first-piece [] h = absurd (not-suc-le-zero h)
+first-piece [] h = absurd (omega arith)
 first-piece (b ∷ input) h =
     let rest = drop 512 (b ∷ input) in
-    ap (λ (p : List (List ℕ)). take 512 (b ∷ input) ∷ p) (enough (length input) (length rest) rest (rw (length-drop 512 (b ∷ input)) (omega arith)) (le-refl (length rest)))
+    rw (enough (length input) (length rest) rest (rw length-drop (omega arith)) (le-refl (length rest)))
 
 pub no-piece : (input : List ℕ) → length input ≡ 0 → piecesOf input ≡ []
 unfolding piecesOf
@@ -61,7 +57,7 @@ module _ (input : List ℕ) (from to : ℕ) (more : from < length input) (is : t
 cut-by : (most : ℕ) (input : List ℕ) → length input ≤ most → AreCut input (piecesBy most input)
 unfolding piecesBy
 cut-by zero [] h = at-end
-cut-by zero (b ∷ input) h = absurd (not-suc-le-zero h)
+cut-by zero (b ∷ input) h = absurd (omega arith)
 cut-by (suc most) [] h = at-end
 cut-by (suc most) (b ∷ input) h =
     go (decLe 512 (length (b ∷ input))) (cut-by most (drop 512 (b ∷ input)) (rw (length-drop 512 (b ∷ input)) (omega (arith, h))))
@@ -107,4 +103,4 @@ pieces-append (suc k) input rest e =
     let more : 0 < length (input ++ rest) = rw (length-append input rest) (omega arith) in
     let left : length (drop 512 input) ≡ 512 * k = length-drop 512 input ∙ omega (arith, e) in
     rw (first-piece (input ++ rest) more, first-piece input (omega arith), take-append-le 512 input rest whole, drop-append-le 512 input rest whole)
-    (ap (λ (p : List (List ℕ)). take 512 input ∷ p) (pieces-append k (drop 512 input) rest left))
+    (rw (pieces-append k (drop 512 input) rest left))

@@ -64,12 +64,7 @@ pub data IsRefused : Depot → List (List ℕ) → Type 0 where
 behind-refused : {s : Depot} {pieces : List (List ℕ)} (position : ℕ) (behind : List (List ℕ)) → IsRefused s pieces → reportFrom s position (pieces ++ behind) ≡ reportFrom s position pieces
 unfolding reportFrom afterBlock
 behind-refused position behind (here row e) = rw e
-behind-refused {s} position behind (later {piece = piece} {pieces = pieces} more) = go (loadOf s piece .refusal) (behind-refused (suc position) behind more)
-  where
-    go : (row : Option ℕ) → reportFrom (loadOf s piece .depot) (suc position) (pieces ++ behind) ≡ reportFrom (loadOf s piece .depot) (suc position) pieces
-        → afterBlock row position (reportFrom (loadOf s piece .depot) (suc position) (pieces ++ behind)) ≡ afterBlock row position (reportFrom (loadOf s piece .depot) (suc position) pieces)
-    go none same = same
-    go (some row) same = refl
+behind-refused position behind (later more) = rw (behind-refused (suc position) behind more)
 
 -- An input of whole blocks, one of which is refused, prints the same whatever follows: nothing behind it need be read.
 pub refused-decides : (k : ℕ) (input rest : List ℕ) → length input ≡ 512 * k → IsRefused fresh (piecesOf input) → reportOf (input ++ rest) ≡ reportOf input
@@ -110,5 +105,5 @@ decided (suc k) s position input e =
 
 -- A depot takes 205 blocks at most, and one piece more is refused: the bytes of 206 blocks decide what is printed.
 pub enough-read : (input : List ℕ) → reportOf (take 105472 input) ≡ reportOf input
-unfolding reportOf fresh
+unfolding reportOf
 enough-read input = decided 205 fresh 0 input refl

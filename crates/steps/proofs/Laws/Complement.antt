@@ -5,15 +5,16 @@ use Prim.Native.Nat.{ℕ, _+_, _-_, _*_, _^_}
 use native.Mathlib.Omega.{arith}
 use lib.Dec.{lit≤, lit<}
 use lib.IntN.{pos}
-use Rattle.numbers.specs.Fraction.{Fraction, IsFraction, Equal, signed, difference}
+use Rattle.numbers.specs.Fraction.{Fraction, IsFraction, Equal, signed, difference, IsScaled}
 use Rattle.numbers.specs.Answer.{given}
 use Rattle.numbers.specs.declared.number.Number.{Number}
-use Rattle.numbers.proofs.Laws.Fractions.{fraction, difference-fraction, product-fraction}
+use Rattle.numbers.proofs.Laws.Pairs.{fraction}
+use Rattle.numbers.proofs.Laws.Fractions.{difference-fraction, product-fraction}
+use Rattle.numbers.proofs.Laws.Exact.{less-scaled}
+use Rattle.numbers.proofs.Laws.Scaled.{equal-scaled}
+use Rattle.numbers.proofs.Laws.Tasks.{claimed-scaled}
 use Rattle.steps.specs.Run.{HasComplement}
 use Rattle.steps.specs.Steps.{complement, refined}
-use Rattle.steps.proofs.Laws.Exact.{less-scaled}
-use Rattle.division.proofs.Laws.Scaled.{IsScaled, equal-scaled}
-use Rattle.steps.proofs.Laws.Tasks.{claimed-scaled}
 use Rattle.steps.proofs.Laws.Terms.{IsBelowTwo}
 
 -- 2 − 2^−31
@@ -21,7 +22,7 @@ abbrev pub twoLess : Fraction
 twoLess = difference (fraction (pos 2) 1) (fraction (pos 1) (2 ^ 31))
 
 two-less-scaled : IsScaled twoLess false (2 ^ 33 - 2) 0 32
-unfolding IsFraction Equal difference signed
+unfolding Equal difference signed
 two-less-scaled = record { positive = lit< tt; amount = refl }
 
 pub complement-fraction : (t : Fraction) → IsFraction t → IsFraction (complement t)

@@ -10,32 +10,32 @@ use lib.Ieee.{minus}
 use lib.IntN.{natAbs}
 use lib.ListN.{length, getD}
 use lib.Pow.{pow-add, pow-pos}
+use Rattle.numbers.specs.Biased.{bias, origin}
 use Rattle.numbers.specs.Answer.{Outcome, given, refused, rounded}
-use Rattle.numbers.specs.Fraction.{IsFraction, value, sum, product, quotient}
+use Rattle.numbers.specs.Fraction.{value, sum, product, quotient, IsScaled}
 use Rattle.numbers.specs.Number.{isAdmissible}
 use Rattle.numbers.specs.Rounding.{byMode, claim}
 use Rattle.numbers.specs.declared.number.Number.{Number}
 use Rattle.numbers.specs.declared.number.Number.the-variants.{Zero, Finite}
 use Rattle.numbers.specs.declared.task.Mode.{Mode}
 use Rattle.numbers.specs.declared.task.Mode.the-variants.{Trunc, Away}
-use Rattle.numbers.proofs.Laws.Rounded.{value-fraction}
 use Rattle.numbers.proofs.Laws.Same.{same-number}
 use Rattle.numbers.proofs.Laws.Value.{rounded-zero}
+use Rattle.numbers.proofs.Laws.Scaled.{origin-is, working-scaled, finite-scaled, zero-value, zero-scaled, scaled-size, scaled-some, equal-scaled, below-scaled, value-fraction}
+use Rattle.numbers.proofs.Laws.Tasks.{claimed-scaled}
+use Rattle.division.proofs.Laws.Admissible.{admissible-parts, admissible-working}
+use Rattle.division.proofs.Laws.Range.{InRange, IsBounded, lowestAdmissible, highestAdmissible}
 use Rattle.steps.specs.Run.{digitOf, lessOf, stepsOf, digitSteps, sumSteps}
 use Rattle.steps.specs.Steps.{lines, lineOf, lineOfBoth, resultAt, workedOut, afterStep, Fails}
-use Rattle.division.proofs.Laws.Admissible.{admissible-parts, admissible-working}
-use Rattle.steps.proofs.Laws.Digit.{digit-away, digit-trunc}
-use Rattle.steps.proofs.Laws.Digits.{HasDigits, HasSum, digits-sum}
+use Rattle.steps.proofs.Laws.OneDigit.{digit-away, digit-trunc}
+use Rattle.steps.proofs.Laws.DigitSum.{HasFourDigits, HasSum, digits-sum}
 use Rattle.steps.proofs.Laws.Failing.{none-fails}
 use Rattle.steps.proofs.Laws.Halves.{halves}
 use Rattle.steps.proofs.Laws.Reciprocal.{reciprocal}
 use Rattle.steps.proofs.Laws.Run.{item}
-use Rattle.division.proofs.Laws.Scaled.{IsScaled, origin, origin-is, working-scaled, finite-scaled, zero-value, zero-scaled, scaled-size, scaled-some, equal-scaled, below-scaled}
-use Rattle.steps.proofs.Laws.Tasks.{claimed-scaled}
-use Rattle.division.proofs.Laws.Range.{InRange, IsRemainder}
-use Rattle.steps.proofs.Laws.Terms.{HasReciprocal, HasHalves, IsPrepared, Under, HasDigit, HasNext, IsLast}
+use Rattle.steps.proofs.Laws.Terms.{HasReciprocal, HasHalves, IsPrepared, Under, HasDigit, HasNext, IsLast, lowestAfter}
 use Rattle.steps.proofs.Laws.Worked.{IsWorked, worked}
-use Rattle.steps.proofs.Lines.{all-lines, line-9, first-digit-lines, second-digit-lines, third-digit-lines, line-28, line-29, sum-lines}
+use Rattle.steps.proofs.TableLines.{all-lines, line-9, first-digit-lines, second-digit-lines, third-digit-lines, line-28, line-29, sum-lines}
 
 -- ---- step 9: the dividend is its own remainder
 
@@ -43,7 +43,7 @@ claim-kept : (p : Number) → isAdmissible p ≡ true → rounded (claim 64) (va
 claim-kept Zero fit = rounded-zero (claim 64) (value Zero) zero-value
 claim-kept (Finite s e S) fit = go (admissible-parts (Finite s e S) fit)
   where
-    go : IsRemainder 49089 (Finite s e S) → rounded (claim 64) (value (Finite s e S)) ≡ given (Finite s e S)
+    go : IsBounded lowestAdmissible (Finite s e S) → rounded (claim 64) (value (Finite s e S)) ≡ given (Finite s e S)
     go (b, is, range) =
         let own = finite-scaled s b S is in
         let k = claimed-scaled 64 own (lit≤ tt) (lit≤ tt) (range .word) (omega (arith, origin-is)) (omega (arith, origin-is)) in
@@ -51,7 +51,6 @@ claim-kept (Finite s e S) fit = go (admissible-parts (Finite s e S) fit)
 
 -- |p| < 2 |d| in units of 2^(e_p − e_d)
 twice-under : (D b : ℕ) (p : Number) {s : Bool} {S : ℕ} → IsScaled (value p) s S b origin → S < 2 * D → Under D (b + 65) p
-unfolding IsFraction
 twice-under D b p {S = S} h less =
     below-scaled (value p) D (b + 65) (origin + 64) .1 (twice (natAbs (value p .numerator)) (value p .denominator) origin (h .positive) (scaled-size h))
   where
@@ -65,8 +64,9 @@ twice-under D b p {S = S} h less =
           mul-lt-mul-of-pos-right {k = 2 ^ b * Y} less (mul-pos (pow-pos b) Y0),
         )
 
-first-grid : (D : ℕ) (p : Number) → 2 ^ 63 ≤ D → IsRemainder 49089 p → (g : ℕ) × (49113 ≤ g) × (g ≤ 82000) × Under D g p
-first-grid D Zero top remainder = (49089 + 65, lit≤ tt, lit≤ tt, twice-under D 49089 Zero {s = false} (zero-scaled (value-fraction Zero) zero-value) (omega arith))
+-- the first grid is 65 above the exponent of p, since S < 2 D; a digit needs its grid 24 above its remainder
+first-grid : (D : ℕ) (p : Number) → 2 ^ 63 ≤ D → IsBounded lowestAdmissible p → (g : ℕ) × (lowestAdmissible + 24 ≤ g) × (g ≤ highestAdmissible + 65) × Under D g p
+first-grid D Zero top remainder = (lowestAdmissible + 65, lit≤ tt, lit≤ tt, twice-under D lowestAdmissible Zero {s = false} (zero-scaled (value-fraction Zero) zero-value) (omega arith))
 first-grid D (Finite s e S) top (b, is, range) = (b + 65, omega arith, omega arith, twice-under D b (Finite s e S) (finite-scaled s b S is) (omega arith))
 
 -- one of numbers that are all given
@@ -77,9 +77,9 @@ given-at (x ∷ xs) (suc j) h = given-at xs j (le-of-suc-le-suc h)
 
 -- ---- all thirty-two
 
-module _ (s : Bool) (b D : ℕ) (range : InRange 49089 b D) (p : Number) (fit : isAdmissible p ≡ true) where
+module _ (s : Bool) (b D : ℕ) (range : InRange lowestAdmissible b D) (p : Number) (fit : isAdmissible p ≡ true) where
   abbrev d : Number
-  d = Finite s (minus b 65535) D
+  d = Finite s (minus b bias) D
 
   recip : HasReciprocal s b D d
   recip = reciprocal s b D range
@@ -99,23 +99,23 @@ module _ (s : Bool) (b D : ℕ) (range : InRange 49089 b D) (p : Number) (fit : 
   prepared : IsPrepared s b D d h l r
   prepared = record { range = range; amount = working-scaled s b D; halves = parts .halves; reciprocal = recip .reciprocal }
 
-  grid : (g : ℕ) × (49113 ≤ g) × (g ≤ 82000) × Under D g p
+  grid : (g : ℕ) × (lowestAdmissible + 24 ≤ g) × (g ≤ highestAdmissible + 65) × Under D g p
   grid = first-grid D p (range .top) (admissible-parts p fit)
 
   -- the digits, each with its remainder
-  first : (a : HasDigit Away b D (grid .0) d r p) × (49089 ≤ a .unit) × HasNext b D (a .unit) 49001 d h l p (a .digit)
-  first = digit-away s b D d h l r prepared 49089 (grid .0) (lit≤ tt) (grid .1) p (admissible-parts p fit) (grid .3)
+  first : (a : HasDigit Away b D (grid .0) d r p) × (lowestAdmissible ≤ a .unit) × HasNext b D (a .unit) (lowestAfter 1) d h l p (a .digit)
+  first = digit-away s b D d h l r prepared lowestAdmissible (grid .0) (lit≤ tt) (grid .1) p (admissible-parts p fit) (grid .3)
 
-  second : (a : HasDigit Away b D (first .0 .unit) d r (first .2 .next)) × (49001 ≤ a .unit) × HasNext b D (a .unit) 48913 d h l (first .2 .next) (a .digit)
-  second = digit-away s b D d h l r prepared 49001 (first .0 .unit) (lit≤ tt) (omega (arith, first .1)) (first .2 .next) (first .2 .remainder) (first .2 .under)
+  second : (a : HasDigit Away b D (first .0 .unit) d r (first .2 .next)) × (lowestAfter 1 ≤ a .unit) × HasNext b D (a .unit) (lowestAfter 2) d h l (first .2 .next) (a .digit)
+  second = digit-away s b D d h l r prepared (lowestAfter 1) (first .0 .unit) (lit≤ tt) (omega (arith, first .1)) (first .2 .next) (first .2 .remainder) (first .2 .under)
 
-  third : (a : HasDigit Away b D (second .0 .unit) d r (second .2 .next)) × (48913 ≤ a .unit) × HasNext b D (a .unit) 48825 d h l (second .2 .next) (a .digit)
-  third = digit-away s b D d h l r prepared 48913 (second .0 .unit) (lit≤ tt) (omega (arith, second .1)) (second .2 .next) (second .2 .remainder) (second .2 .under)
+  third : (a : HasDigit Away b D (second .0 .unit) d r (second .2 .next)) × (lowestAfter 2 ≤ a .unit) × HasNext b D (a .unit) (lowestAfter 3) d h l (second .2 .next) (a .digit)
+  third = digit-away s b D d h l r prepared (lowestAfter 2) (second .0 .unit) (lit≤ tt) (omega (arith, second .1)) (second .2 .next) (second .2 .remainder) (second .2 .under)
 
-  fourth : (a : HasDigit Trunc b D (third .0 .unit) d r (third .2 .next)) × (48825 ≤ a .unit) × IsLast d (third .2 .next) (a .digit)
-  fourth = digit-trunc s b D d h l r prepared 48825 (third .0 .unit) (lit≤ tt) (omega (arith, third .1)) (third .2 .next) (third .2 .remainder) (third .2 .under)
+  fourth : (a : HasDigit Trunc b D (third .0 .unit) d r (third .2 .next)) × (lowestAfter 3 ≤ a .unit) × IsLast d (third .2 .next) (a .digit)
+  fourth = digit-trunc s b D d h l r prepared (lowestAfter 3) (third .0 .unit) (lit≤ tt) (omega (arith, third .1)) (third .2 .next) (third .2 .remainder) (third .2 .under)
 
-  digits : HasDigits b p d (first .0 .digit) (second .0 .digit) (third .0 .digit) (fourth .0 .digit)
+  digits : HasFourDigits b p d (first .0 .digit) (second .0 .digit) (third .0 .digit) (fourth .0 .digit)
   digits = record {
     p1 = first .2 .next;
     p2 = second .2 .next;

@@ -1,5 +1,5 @@
 -- The two steps of a digit, 10 and 11 and again 16 and 17, 22 and 23, 28 and 29, of a remainder that is not zero. The digit is 24 bits of the exact quotient.
-use mathlib.Core.Path.{_≡_, refl, sym, ap, _∙_}
+use mathlib.Core.Path.{_≡_, refl, sym, _∙_}
 use mathlib.Core.Bool.{Bool, true}
 use Prim.Native.Nat.{ℕ, _+_, _-_, _*_, _^_, _≤_, _<_}
 use native.Mathlib.Nat.{lt-of-mul-lt-mul-right, mul-pos, mul-le-mul-right}
@@ -8,28 +8,29 @@ use lib.Dec.{lit≤}
 use lib.Ieee.{unlike}
 use lib.IntN.{natAbs}
 use lib.Pow.{pow-add, pow-mono, pow-pos}
+use Rattle.numbers.specs.Biased.{origin}
 use Rattle.numbers.specs.Number.{isWorking}
-use Rattle.numbers.specs.Fraction.{IsFraction, value, product}
+use Rattle.numbers.specs.Fraction.{value, product, IsScaled}
 use Rattle.numbers.specs.Rounding.{wholeOf, byMode}
 use Rattle.numbers.specs.Answer.{given, rounded}
 use Rattle.numbers.specs.declared.number.Number.{Number}
 use Rattle.numbers.specs.declared.task.Mode.{Mode}
 use Rattle.numbers.specs.declared.task.Mode.the-variants.{Trunc, Away}
 use Rattle.numbers.proofs.Laws.Misses.{whole-trunc, whole-away, whole-miss}
-use Rattle.numbers.proofs.Laws.Powers.{pow-below, powers-below, below-powers}
+use Rattle.numbers.proofs.Laws.Powers.{pow-below, powers-below, below-powers, power-sum}
 use Rattle.numbers.proofs.Laws.Ratio.{gap}
-use Rattle.steps.proofs.Laws.Exact.{product-scaled}
+use Rattle.numbers.proofs.Laws.Exact.{product-scaled}
+use Rattle.numbers.proofs.Laws.Scaled.{moved, finer, coarser, scaled-size, scaled-some, scaled-sign, below-scaled}
+use Rattle.numbers.proofs.Laws.Tasks.{IsRounded, rounded-scaled}
 use Rattle.division.proofs.Laws.Quotients.{quotient-reaches, quotient-short, quotient-sign}
-use Rattle.steps.proofs.Laws.Remainder.{Operands, product-low, product-high, product-short, away-below, away-above, whole-bits, units-short, units-near}
-use Rattle.division.proofs.Laws.Scaled.{IsScaled, origin, moved, finer, coarser, scaled-size, scaled-some, scaled-sign, below-scaled}
+use Rattle.division.proofs.Laws.Range.{half, half-is, half-square, InRange, lowestAdmissible}
+use Rattle.steps.proofs.Laws.Remainder.{IsDigitStep, product-low, product-high, product-short, away-below, away-above, whole-bits, units-short, units-near}
 use Rattle.steps.proofs.Laws.Shortened.{IsShortened, word-shortened}
-use Rattle.steps.proofs.Laws.Tasks.{IsRounded, rounded-scaled}
-use Rattle.division.proofs.Laws.Range.{half, half-is, half-square, InRange}
-use Rattle.steps.proofs.Laws.Terms.{IsReciprocal, Under, HasDigit, IsLast}
+use Rattle.steps.proofs.Laws.Terms.{IsReciprocal, Under, HasDigit, IsLast, lowestAfter}
 
 -- 64 bits in two parts
 pub half-parts : (i j : ℕ) → i + j ≡ 64 → 2 ^ i * 2 ^ j ≡ half * half
-half-parts i j e = sym (pow-add 2 i j) ∙ ap (λ (n : ℕ). 2 ^ n) e ∙ sym half-square
+half-parts i j e = sym (power-sum 64 i j (sym e)) ∙ sym half-square
 
 -- ---- the digit is `whole` units, and a word is 2^left units of the remainder's last bit
 
@@ -52,16 +53,16 @@ pub record HasQuotient (mode : Mode) (s t : Bool) (b D a R : ℕ) (r x : Number)
   pub short : mode ≡ Trunc → whole * D ≤ R * 2 ^ left
   pub near : mode ≡ Away → gap (R * 2 ^ left) (whole * D) < D
 
-module _ (s t : Bool) (b D a R : ℕ) (r x : Number) (divisor : InRange 49089 b D) (reciprocal : IsReciprocal s b D r)
-    (range : InRange 47000 a R) (is : IsScaled (value x) t R a origin) where
+module _ (s t : Bool) (b D a R : ℕ) (r x : Number) (divisor : InRange lowestAdmissible b D) (reciprocal : IsReciprocal s b D r)
+    (range : InRange (lowestAfter 3) a R) (is : IsScaled (value x) t R a origin) where
   upper : IsShortened Trunc 64 (value x) t R (a + 32) origin
   upper = word-shortened Trunc (lit≤ tt) range is
 
   P : ℕ
   P = upper .whole * reciprocal .whole
 
-  operands : Operands half R (upper .whole) (reciprocal .whole) D
-  operands = record {
+  digit-step : IsDigitStep half R (upper .whole) (reciprocal .whole) D
+  digit-step = record {
     wide = rw half-is (lit≤ tt);
     top = omega (arith, half-square);
     word = omega (arith, half-square);
@@ -75,11 +76,11 @@ module _ (s t : Bool) (b D a R : ℕ) (r x : Number) (divisor : InRange 49089 b 
 
   least-product : 2 ^ 62 ≤ P
   unfolding P
-  least-product = omega (arith, half-square, product-low operands)
+  least-product = omega (arith, half-square, product-low digit-step)
 
   most-product : P < 2 ^ 65
   unfolding P
-  most-product = omega (arith, half-square, product-high operands)
+  most-product = omega (arith, half-square, product-high digit-step)
 
   product-is : IsScaled (product (value (upper .number)) (value r)) (unlike t s) P a (b + 64)
   unfolding P
@@ -89,7 +90,7 @@ module _ (s t : Bool) (b D a R : ℕ) (r x : Number) (divisor : InRange 49089 b 
   module _ (k left : ℕ) (word : left + k ≡ 64) where
     units-most : (m : ℕ) → m * 2 ^ k ≤ P → m * D ≤ R * 2 ^ left
     unfolding P
-    units-most m h = units-short (half * half) R D (2 ^ k) (2 ^ left) (pow-pos k) (half-parts left k word) m P h (product-short operands)
+    units-most m h = units-short (half * half) R D (2 ^ k) (2 ^ left) (pow-pos k) (half-parts left k word) m P h (product-short digit-step)
 
     units-close : 39 ≤ k → gap (R * 2 ^ left) (wholeOf Away (unlike t s) P (2 ^ k) * D) < D
     unfolding P
@@ -100,7 +101,7 @@ module _ (s t : Bool) (b D a R : ℕ) (r x : Number) (divisor : InRange 49089 b 
         let unit : m * 2 ^ k < P + 2 ^ k = omega arith in
         let fine : 128 * half ≤ 2 ^ k = rw half-is (pow-mono {i = 39} least) in
         units-near (half * half) R D (2 ^ k) (2 ^ left) (pow-pos k) (half-parts left k word) m
-        (away-below operands m (2 ^ k) away unit fine) (away-above operands m (2 ^ k) away unit fine)
+        (away-below digit-step m (2 ^ k) away unit fine) (away-above digit-step m (2 ^ k) away unit fine)
 
   pub has-quotient : (mode : Mode) → HasQuotient mode s t b D a R r x
   has-quotient mode = go (rounded-scaled mode 24 65 product-is (lit≤ tt) (lit≤ tt) (omega (arith, least-product)) most-product (omega arith) (omega arith))
@@ -140,7 +141,6 @@ module _ {mode : Mode} {s t : Bool} {b D a R : ℕ} {r x : Number} (q : HasQuoti
   in-units = finer is (q .left) (omega (arith, q .word))
 
   pub finer-unit : (g : ℕ) → 0 < D → Under D g x → q .dropped + a + 23 ≤ g
-  unfolding IsFraction
   finer-unit g D0 under =
       narrow (natAbs (value x .numerator)) (value x .denominator) (2 ^ (origin + 64)) (R * 2 ^ q .left) (q .dropped + a) (is .positive) (q .reach)
       (scaled-size in-units) (below-scaled (value x) D g (origin + 64) .0 under)

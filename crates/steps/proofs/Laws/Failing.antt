@@ -3,7 +3,6 @@ use mathlib.Core.Path.{_≡_, refl, sym, ap, _∙_}
 use mathlib.Core.Bool.{Bool, true, false, not, _&&_, _||_, cond, false≢true}
 use mathlib.Core.List.{List, [], _∷_, map}
 use Prim.Native.Nat.{ℕ, zero, suc}
-use native.Mathlib.Omega.{arith}
 use lib.Dec.{eqb}
 use lib.IntN.{natAbs}
 use lib.ListN.{getD}
@@ -16,8 +15,9 @@ use Rattle.numbers.specs.declared.number.Number.the-variants.{Zero, Finite}
 use Rattle.numbers.specs.declared.task.Mode.the-variants.{Trunc}
 use Rattle.numbers.specs.declared.task.Task.{Task}
 use Rattle.numbers.specs.declared.task.Task.the-variants.{Round, Exact}
+use Rattle.numbers.proofs.Laws.Tests.{never}
 use Rattle.steps.specs.Steps.{Term, Expression, of, ofBoth, Line, lines, lineOf, lineOfBoth, termOf, resultOf, workedOut, isOutside, failsTask, failsOf, failsOfBoth, lineFails, Fails}
-use Rattle.steps.proofs.Lines.{own-results}
+use Rattle.steps.proofs.TableLines.{own-results}
 
 abbrev pub isRefusal : Outcome → Bool
 isRefusal (given x) = false
@@ -67,7 +67,7 @@ line-holds outcome (ofBoth exact a b) task y h = go (outcome a) (outcome b) h
 lines-hold : (outcome : Term → Outcome) (ls : List Line) (xs : List Number) → map (λ (line : Line). resultOf outcome (line .expression) (line .task)) ls ≡ map given xs
     → (k : ℕ) → getD (map (λ (line : Line). lineFails outcome (line .expression) (line .task)) ls) k false ≡ false
 lines-hold outcome [] xs e k = refl
-lines-hold outcome (line ∷ ls) [] e k = absurd (let z : _≡_ {A = ℕ} 0 1 = cc in omega arith)
+lines-hold outcome (line ∷ ls) [] e k = never cc
 lines-hold outcome (line ∷ ls) (x ∷ xs) e zero = line-holds outcome (line .expression) (line .task) x (cc)
 lines-hold outcome (line ∷ ls) (x ∷ xs) e (suc k) = lines-hold outcome ls xs (cc) k
 

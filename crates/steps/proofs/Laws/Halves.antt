@@ -6,19 +6,20 @@ use native.Mathlib.Nat.{lt-of-le-of-lt, lt-of-mul-lt-mul-right}
 use native.Mathlib.Omega.{arith}
 use lib.Dec.{lit≤}
 use lib.Ieee.{minus}
+use Rattle.numbers.specs.Biased.{bias, origin}
 use Rattle.numbers.specs.Fraction.{value, difference}
 use Rattle.numbers.specs.declared.number.Number.{Number}
 use Rattle.numbers.specs.declared.number.Number.the-variants.{Finite}
 use Rattle.numbers.specs.declared.task.Mode.the-variants.{Trunc}
-use Rattle.steps.proofs.Laws.Exact.{less-scaled}
-use Rattle.division.proofs.Laws.Scaled.{origin, origin-is, working-scaled, finer}
+use Rattle.numbers.proofs.Laws.Exact.{less-scaled}
+use Rattle.numbers.proofs.Laws.Scaled.{origin-is, working-scaled, finer}
+use Rattle.numbers.proofs.Laws.Tasks.{IsClaimed, claimed-scaled}
+use Rattle.division.proofs.Laws.Range.{half, half-is, half-square, InRange, lowestAdmissible}
 use Rattle.steps.proofs.Laws.Shortened.{IsShortened, word-shortened}
-use Rattle.steps.proofs.Laws.Tasks.{IsClaimed, claimed-scaled}
-use Rattle.division.proofs.Laws.Range.{half, half-is, half-square, InRange}
 use Rattle.steps.proofs.Laws.Terms.{HasHalves}
 
 -- The divisor is cut at half a word: its trunc to 32 bits is the upper half, and what is left is the lower half, exactly.
-pub halves : (s : Bool) (b D : ℕ) → InRange 49089 b D → HasHalves s b D (Finite s (minus b 65535) D)
+pub halves : (s : Bool) (b D : ℕ) → InRange lowestAdmissible b D → HasHalves s b D (Finite s (minus b bias) D)
 halves s b D range = record {
   h = upper .number;
   l = lower .number;
@@ -38,7 +39,7 @@ halves s b D range = record {
 }
   where
     d : Number
-    d = Finite s (minus b 65535) D
+    d = Finite s (minus b bias) D
 
     upper : IsShortened Trunc 64 (value d) s D (b + 32) origin
     upper = word-shortened Trunc (lit≤ tt) range (working-scaled s b D)

@@ -8,25 +8,26 @@ use lib.Dec.{lit≤}
 use lib.Ieee.{minus, unlike}
 use lib.IntN.{pos, _+ℤ_}
 use lib.Pow.{pow-add, pow-mono, pow-pos}
+use Rattle.numbers.specs.Biased.{bias, origin, highestBiased}
 use Rattle.numbers.specs.Number.{isWorking}
-use Rattle.numbers.specs.Fraction.{Fraction, IsFraction, value, difference, product}
+use Rattle.numbers.specs.Fraction.{Fraction, value, difference, product, IsScaled}
 use Rattle.numbers.specs.Answer.{given, rounded}
 use Rattle.numbers.specs.Rounding.{claim}
 use Rattle.numbers.specs.declared.number.Number.{Number}
 use Rattle.numbers.specs.declared.number.Number.the-variants.{Zero, Finite}
 use Rattle.numbers.proofs.Laws.Bias.{biased-working}
-use Rattle.numbers.proofs.Laws.Powers.{pow-below}
+use Rattle.numbers.proofs.Laws.Powers.{pow-below, power-sum}
 use Rattle.numbers.proofs.Laws.Ratio.{Ratio, gap, ratio-gap}
 use Rattle.numbers.proofs.Laws.Signs.{unlike-twice}
 use Rattle.numbers.proofs.Laws.Working.{IsWorkingFinite, working-parts}
-use Rattle.steps.proofs.Laws.Estimate.{half-parts}
-use Rattle.steps.proofs.Laws.Exact.{product-scaled, lessSign, difference-scaled, less-twice-scaled, restored}
+use Rattle.numbers.proofs.Laws.Exact.{product-scaled, lessSign, difference-scaled, less-twice-scaled, restored}
+use Rattle.numbers.proofs.Laws.Scaled.{origin-is, finite-scaled, moved, finer, coarser, scaled-size, equal-scaled, same-amount, below-scaled}
+use Rattle.numbers.proofs.Laws.Tasks.{IsClaimed, claimed-scaled}
 use Rattle.division.proofs.Laws.Quotients.{quotient-below}
+use Rattle.division.proofs.Laws.Range.{half, half-is, half-square, InRange, IsBounded, lowestAdmissible, highestAdmissible}
+use Rattle.steps.proofs.Laws.Estimate.{half-parts}
 use Rattle.steps.proofs.Laws.Remainder.{first-fits, unit-most, unit-least}
-use Rattle.division.proofs.Laws.Scaled.{IsScaled, origin, origin-is, finite-scaled, moved, finer, coarser, scaled-size, equal-scaled, same-amount, below-scaled}
-use Rattle.steps.proofs.Laws.Tasks.{IsClaimed, claimed-scaled}
-use Rattle.division.proofs.Laws.Range.{half, half-is, half-square, InRange, IsRemainder}
-use Rattle.steps.proofs.Laws.Terms.{IsHalves, HasNext}
+use Rattle.steps.proofs.Laws.Terms.{IsHalves, HasNext, lowestAfter}
 
 -- ---- the remainder y after a digit q: A units less P units, where the product of q and the divisor is P units
 
@@ -34,9 +35,8 @@ module _ {s t : Bool} {b D A P i : ℕ} (d x q y : Number) (D0 : 0 < D) (divisor
     (before : IsScaled (value x) t A i (origin + 64)) (taken : IsScaled (product (value q) (value d)) t P i (origin + 64))
     (after : IsScaled (value y) (lessSign t A P) (gap A P) i (origin + 64)) where
   pub after-digit : (c : ℕ) (h l high low less : Number) → rounded (claim 64) (product (value q) (value h)) ≡ given high → rounded (claim 64) (product (value q) (value l)) ≡ given low
-      → rounded (claim 64) (difference (value x) (value high)) ≡ given less → rounded (claim 64) (difference (value less) (value low)) ≡ given y → IsRemainder c y
+      → rounded (claim 64) (difference (value x) (value high)) ≡ given less → rounded (claim 64) (difference (value less) (value low)) ≡ given y → IsBounded c y
       → HasNext b D i c d h l x q
-  unfolding IsFraction
   after-digit c h l high low less high-step low-step less-step next-step remainder = record {
     high = high;
     low = low;
@@ -74,14 +74,14 @@ module _ {y : Fraction} {s t : Bool} {Z i a S : ℕ} (own : IsScaled y t S a ori
       pow-below (a + 64) (suc i)
       (rw (pow-add 2 a 64, pow-succ' 2 i) (unit-least (2 ^ 64) (2 ^ a) (2 ^ i) S Z (omega arith) word small (pow-pos a) (pow-pos i) same-size))
 
-is-remainder : (c : ℕ) {s : Bool} {Z i : ℕ} (y : Number) → isWorking y ≡ true → IsScaled (value y) s Z i (origin + 64) → Z < 2 ^ 64 → c + 127 ≤ i → i ≤ 81982 → IsRemainder c y
-is-remainder c Zero fit amount small low high = tt
-is-remainder c {i = i} (Finite t e S) fit amount small low high = go (working-parts (Finite t e S) t e S fit refl)
+is-bounded : (c : ℕ) {s : Bool} {Z i : ℕ} (y : Number) → isWorking y ≡ true → IsScaled (value y) s Z i (origin + 64) → Z < 2 ^ 64 → c + 127 ≤ i → i ≤ highestAdmissible + 63 → IsBounded c y
+is-bounded c Zero fit amount small low high = tt
+is-bounded c {i = i} (Finite t e S) fit amount small low high = go (working-parts (Finite t e S) t e S fit refl)
   where
-    go : IsWorkingFinite e S → IsRemainder c (Finite t e S)
+    go : IsWorkingFinite e S → IsBounded c (Finite t e S)
     go is = biased (biased-working e (is .exponent))
       where
-        biased : (a : ℕ) × (e +ℤ pos 65535 ≡ pos a) × (a ≤ 131071) × (e ≡ minus a 65535) → IsRemainder c (Finite t e S)
+        biased : (a : ℕ) × (e +ℤ pos bias ≡ pos a) × (a ≤ highestBiased) × (e ≡ minus a bias) → IsBounded c (Finite t e S)
         biased (a, added, range, k) =
             let own = finite-scaled t a S k in
             let least = exponent-least own amount (is .top) (is .word) small in
@@ -90,8 +90,8 @@ is-remainder c {i = i} (Finite t e S) fit amount small low high = go (working-pa
 
 -- ---- the four steps, after a digit of m units from which k bits were dropped
 
-module _ (s t : Bool) (b D a R : ℕ) (d h l x q : Number) (divisor : InRange 49089 b D) (is : IsScaled (value d) s D b origin) (halves : IsHalves s b D h l)
-    (range : InRange 47000 a R) (k left m : ℕ) (word : left + k ≡ 64) (least : 39 ≤ k) (most : k ≤ 41) (bits : m ≤ 2 ^ 24)
+module _ (s t : Bool) (b D a R : ℕ) (d h l x q : Number) (divisor : InRange lowestAdmissible b D) (is : IsScaled (value d) s D b origin) (halves : IsHalves s b D h l)
+    (range : InRange (lowestAfter 3) a R) (k left m : ℕ) (word : left + k ≡ 64) (least : 39 ≤ k) (most : k ≤ 41) (bits : m ≤ 2 ^ 24)
     (before : IsScaled (value x) t (R * 2 ^ left) (k + a) (origin + 64)) (digit : IsScaled (value q) (unlike t s) m (k + a) (b + 64))
     (near : gap (R * 2 ^ left) (m * D) < D) where
   digit-times : {N j : ℕ} (z : Number) → IsScaled (value z) s N j origin → IsScaled (product (value q) (value z)) t (m * N) (k + a + j) (b + 64 + origin)
@@ -115,7 +115,7 @@ module _ (s t : Bool) (b D a R : ℕ) (d h l x q : Number) (divisor : InRange 49
 
   -- x less the first product, as a multiple of the remainder's last bit
   half-power : 2 ^ (k - 32) * 2 ^ left ≡ half
-  half-power = sym (pow-add 2 (k - 32) left) ∙ ap (λ (n : ℕ). 2 ^ n) (let e : k - 32 + left ≡ 32 = omega arith in e) ∙ sym half-is
+  half-power = sym (power-sum 32 (k - 32) left (omega arith)) ∙ sym half-is
 
   lesser : ℕ
   lesser = gap R (m * halves .high * 2 ^ (k - 32))
@@ -158,4 +158,4 @@ module _ (s t : Bool) (b D a R : ℕ) (d h l x q : Number) (divisor : InRange 49
   pub has-next : (c : ℕ) → c + 127 ≤ k + a → HasNext b D (k + a) c d h l x q
   has-next c enough =
       after-digit d x q (next .number) (omega arith) is near before taken (next .amount) c h l (high .number) (low .number) (less .number)
-      (high .step) (low .step) (less .step) (next .step) (is-remainder c (next .number) (next .fit) (next .amount) (omega arith) enough (omega arith))
+      (high .step) (low .step) (less .step) (next .step) (is-bounded c (next .number) (next .fit) (next .amount) (omega arith) enough (omega arith))

@@ -5,25 +5,26 @@ use Prim.Native.Nat.{ℕ, _+_, _*_, _^_}
 use native.Mathlib.Omega.{arith}
 use lib.Dec.{lit≤}
 use lib.Ieee.{minus}
+use Rattle.numbers.specs.Biased.{bias, origin}
 use Rattle.numbers.specs.Number.{isWorking}
-use Rattle.numbers.specs.Fraction.{value, product}
+use Rattle.numbers.specs.Fraction.{value, product, IsScaled}
 use Rattle.numbers.specs.Rounding.{byMode}
 use Rattle.numbers.specs.Answer.{given, rounded}
 use Rattle.numbers.specs.declared.number.Number.{Number}
 use Rattle.numbers.specs.declared.number.Number.the-variants.{Finite}
 use Rattle.numbers.specs.declared.task.Mode.the-variants.{Trunc, Away}
 use Rattle.numbers.proofs.Laws.Signs.{unlike-same, unlike-plus}
+use Rattle.numbers.proofs.Laws.Exact.{product-scaled}
+use Rattle.numbers.proofs.Laws.Scaled.{origin-is, working-scaled, moved, finer}
+use Rattle.numbers.proofs.Laws.Tasks.{IsClaimed}
 use Rattle.division.specs.Seed.{indexOf}
+use Rattle.division.proofs.Laws.Newton.{IsNear, IsTurned, IsCloser, product-top, product-word, has-complement, refined-top, refined-word, closer, next-near, last-close}
+use Rattle.division.proofs.Laws.Seeds.{entryFor, entry-range, index-below, seed-close}
+use Rattle.division.proofs.Laws.Range.{half, half-is, half-square, half-cube, InRange, lowestAdmissible}
 use Rattle.steps.specs.Steps.{seed, refined}
 use Rattle.steps.proofs.Laws.Complement.{complement-scaled}
-use Rattle.steps.proofs.Laws.Exact.{product-scaled}
-use Rattle.division.proofs.Laws.Newton.{IsNear, IsTurned, IsCloser, product-top, product-word, has-complement, refined-top, refined-word, closer, next-near, last-close}
-use Rattle.division.proofs.Laws.Scaled.{IsScaled, origin, origin-is, working-scaled, moved, finer}
-use Rattle.division.proofs.Laws.Seeds.{entryFor, entry-range, index-below, seed-close}
-use Rattle.steps.proofs.Laws.Seed.{seed-step}
+use Rattle.steps.proofs.Laws.SeedStep.{seed-step}
 use Rattle.steps.proofs.Laws.Shortened.{IsShortened, shortened, word-shortened}
-use Rattle.steps.proofs.Laws.Tasks.{IsClaimed}
-use Rattle.division.proofs.Laws.Range.{half, half-is, half-square, half-cube, InRange}
 use Rattle.steps.proofs.Laws.Terms.{IsBelowTwo, HasReciprocal}
 
 -- ---- a Newton step: steps 3 and 4, or 5 and 6, from the reciprocal n, which is x / 2^96 × 2^origin / 2^b
@@ -39,7 +40,7 @@ record HasRefined (s : Bool) (b D x : ℕ) (n dr : Number) : Type 0 where
   amount : IsScaled (value next) s whole origin (b + 96)
   is-closer : IsCloser (half * half * half) (half * half) (x * D) (whole * D)
 
-module _ (s : Bool) (b D DR x : ℕ) (n dr : Number) (range : InRange 49089 b D) (near : IsNear half D DR x)
+module _ (s : Bool) (b D DR x : ℕ) (n dr : Number) (range : InRange lowestAdmissible b D) (near : IsNear half D DR x)
     (n-is : IsScaled (value n) s x origin (b + 96)) (dr-is : IsScaled (value dr) s DR (b + 32) origin) where
   product-is : IsScaled (product (value n) (value dr)) false (x * DR) 0 64
   product-is = moved (rw (unlike-same s) at (product-scaled n-is dr-is)) (omega arith)
@@ -84,11 +85,11 @@ module _ (s : Bool) (b D DR x : ℕ) (n dr : Number) (range : InRange 49089 b D)
 
 -- ---- all six steps
 
-module _ (s : Bool) (b D : ℕ) (range : InRange 49089 b D) where
-  first : IsClaimed 8 (seed (Finite s (minus b 65535) D)) s (entryFor D) origin (b + 71)
+module _ (s : Bool) (b D : ℕ) (range : InRange lowestAdmissible b D) where
+  first : IsClaimed 8 (seed (Finite s (minus b bias) D)) s (entryFor D) origin (b + 71)
   first = seed-step s b D range
 
-  divisor-step : IsShortened Away 64 (value (Finite s (minus b 65535) D)) s D (b + 32) origin
+  divisor-step : IsShortened Away 64 (value (Finite s (minus b bias) D)) s D (b + 32) origin
   divisor-step = word-shortened Away (lit≤ tt) range (working-scaled s b D)
 
   near : IsNear half D (divisor-step .whole) (entryFor D * 2 ^ 25)
@@ -105,7 +106,7 @@ module _ (s : Bool) (b D : ℕ) (range : InRange 49089 b D) where
       }
 
   -- the six steps are given, and after them v × D is at most 2^96 and above 2^96 − 2^68
-  pub reciprocal : HasReciprocal s b D (Finite s (minus b 65535) D)
+  pub reciprocal : HasReciprocal s b D (Finite s (minus b bias) D)
   reciprocal =
       let dr = divisor-step .number in
       let DR = divisor-step .whole in

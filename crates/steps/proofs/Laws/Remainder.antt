@@ -7,7 +7,7 @@ use native.Mathlib.Omega.{arith}
 use Rattle.numbers.proofs.Laws.Ratio.{gap}
 
 -- D and R have their top bit set, H is R cut to half a word, and v × D lies in (w³ − 16 w², w³]
-pub record Operands (w R H v D : ℕ) : Type 0 where
+pub record IsDigitStep (w R H v D : ℕ) : Type 0 where
   pub wide : 128 ≤ w
   pub top : w * w ≤ 2 * R
   pub word : R < w * w
@@ -18,7 +18,7 @@ pub record Operands (w R H v D : ℕ) : Type 0 where
   pub under : v * D ≤ w * w * w
   pub close : w * w * w < v * D + 16 * (w * w)
 
-module _ {w R H v D : ℕ} (is : Operands w R H v D) where
+module _ {w R H v D : ℕ} (is : IsDigitStep w R H v D) where
   words : 128 * 128 ≤ w * w
   words = mul-le-mul (is .wide) (is .wide)
 
@@ -91,7 +91,7 @@ module _ (W R D T K : ℕ) (T0 : 0 < T) (parts : K * T ≡ W) where
       let less : m * high * U < R + T = lt-of-mul-lt-mul-right K (omega arith) in
       omega arith
 
--- ---- Z units I are S × A × W, with S and Z below W and the top bit of S set: I lies between A W / 2 and A w²
+-- ---- Z units I are S × A × W, with S and Z below W and the top bit of S set: I lies between A W / 2 and A W²
 
 module _ (W A I S Z : ℕ) (S0 : W ≤ 2 * S) (S1 : S < W) (Z1 : Z < W) (A0 : 0 < A) (I0 : 0 < I) (same : S * A * W ≡ Z * I) where
   pub unit-most : I < W * (A * W)

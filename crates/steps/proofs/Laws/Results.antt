@@ -9,15 +9,15 @@ use Rattle.numbers.specs.Fraction.{Fraction, IsFraction, value}
 use Rattle.numbers.specs.Rounding.{isPrecision, precisionOf}
 use Rattle.numbers.specs.declared.number.Number.{Number}
 use Rattle.numbers.specs.declared.task.Task.{Task}
+use Rattle.numbers.proofs.Laws.Scaled.{value-fraction}
 use Rattle.numbers.proofs.Laws.Fractions.{sum-fraction, difference-fraction, product-fraction}
 use Rattle.numbers.proofs.Laws.Refusals.{precision-range}
-use Rattle.numbers.proofs.Laws.Rounded.{value-fraction}
 use Rattle.division.specs.Judgement.{IsTask}
 use Rattle.steps.specs.Run.{IsResult}
 use Rattle.steps.specs.Steps.{Term, Expression, of, ofBoth, Line, lines, lineOf, lineOfBoth, resultAt, termOf, resultOf, workedOut, afterStep}
 use Rattle.steps.proofs.Laws.Complement.{refined-fraction}
-use Rattle.steps.proofs.Laws.Line.{given-result}
-use Rattle.steps.proofs.Laws.Seed.{seed-fraction}
+use Rattle.steps.proofs.Laws.Combined.{given-result}
+use Rattle.steps.proofs.Laws.SeedStep.{seed-fraction}
 
 -- the value of a line is a fraction
 abbrev IsExact : Expression → Type 0
@@ -74,7 +74,7 @@ proper {line} h exact = record { fit = precision-range (precisionOf (line .task)
 
 module _ (task : Task) (fit : IsTask task) where
   all-proper : Each IsProper (lines task)
-  unfolding lines precisionOf isPrecision
+  unfolding lines isPrecision
   all-proper =
       proper refl seed-fraction and proper refl value-fraction
       and proper refl product-fraction and proper refl refined-fraction

@@ -13,11 +13,11 @@ use Rattle.numbers.specs.declared.answer.Answer.the-variants.{Given}
 use Rattle.numbers.specs.declared.number.Number.{Number}
 use Rattle.numbers.specs.declared.task.Task.{Task}
 use Rattle.numbers.proofs.Laws.Tests.{range-true}
+use Rattle.division.proofs.Laws.Admissible.{admissible-working}
 use Rattle.steps.specs.Run.{IsResult, digitStep, laterStep}
 use Rattle.steps.specs.Steps.{lines, resultAt, workedOut, afterStep}
 use Rattle.steps.specs.Wanted.{isStep}
-use Rattle.division.proofs.Laws.Admissible.{admissible-working}
-use Rattle.steps.proofs.Lines.{early-lines, later-lines}
+use Rattle.steps.proofs.TableLines.{early-lines, later-lines}
 
 -- an admissible operand is a result
 pub operand-result : (x : Number) → isAdmissible x ≡ true → IsResult (outcome (Given x))

@@ -1,25 +1,27 @@
 -- A whole number A of 64 bits or more, rounded to 32: the result is a whole number of half words, and misses A by less than 2^(K − 32), where A has K bits
 -- at most.
-use mathlib.Core.Path.{_≡_, ap, _∙_}
+use mathlib.Core.Path.{_≡_, ap}
 use mathlib.Core.Bool.{Bool, true}
 use Prim.Native.Nat.{ℕ, _+_, _-_, _*_, _^_, _≤_, _<_}
 use native.Mathlib.Nat.{lt-of-lt-of-le}
 use native.Mathlib.Omega.{arith}
 use lib.Dec.{lit≤}
-use lib.Pow.{pow-add, pow-mono, pow-pos}
+use lib.Pow.{pow-mono, pow-pos}
+use Rattle.numbers.specs.Biased.{bias, origin}
 use Rattle.numbers.specs.Number.{isWorking}
-use Rattle.numbers.specs.Fraction.{Fraction, value}
+use Rattle.numbers.specs.Fraction.{Fraction, value, IsScaled}
 use Rattle.numbers.specs.Rounding.{byMode, wholeOf}
 use Rattle.numbers.specs.Answer.{given, rounded}
 use Rattle.numbers.specs.declared.number.Number.{Number}
 use Rattle.numbers.specs.declared.task.Mode.{Mode}
 use Rattle.numbers.specs.declared.task.Mode.the-variants.{Trunc, Away}
 use Rattle.numbers.proofs.Laws.Misses.{whole-away, whole-miss, whole-trunc}
-use Rattle.numbers.proofs.Laws.Powers.{powers-below, below-powers}
+use Rattle.numbers.proofs.Laws.Powers.{powers-below, below-powers, power-sum}
 use Rattle.numbers.proofs.Laws.Ratio.{gap}
-use Rattle.division.proofs.Laws.Scaled.{IsScaled, origin, origin-is, moved, coarser}
-use Rattle.steps.proofs.Laws.Tasks.{IsRounded, rounded-scaled}
+use Rattle.numbers.proofs.Laws.Scaled.{origin-is, moved, coarser}
+use Rattle.numbers.proofs.Laws.Tasks.{IsRounded, rounded-scaled}
 use Rattle.division.proofs.Laws.Range.{half, half-is, InRange}
+use Rattle.steps.proofs.Laws.Terms.{lowestAfter}
 
 pub record IsShortened (mode : Mode) (K : ℕ) (x : Fraction) (s : Bool) (A i o : ℕ) : Type 0 where
   pub number : Number
@@ -31,7 +33,7 @@ pub record IsShortened (mode : Mode) (K : ℕ) (x : Fraction) (s : Bool) (A i o 
   pub above : mode ≡ Away → A ≤ whole * half
   pub below : mode ≡ Trunc → whole * half ≤ A
 
-pub shortened : (mode : Mode) (K : ℕ) {x : Fraction} {s : Bool} {A i o : ℕ} → IsScaled x s A i (o + 32) → 2 ^ 63 ≤ A → A < 2 ^ K → o + 32 ≤ i + 65535 → i + K ≤ o + 65568
+pub shortened : (mode : Mode) (K : ℕ) {x : Fraction} {s : Bool} {A i o : ℕ} → IsScaled x s A i (o + 32) → 2 ^ 63 ≤ A → A < 2 ^ K → o + 32 ≤ i + bias → i + K ≤ o + 32 + 65536
     → IsShortened mode K x s A i o
 shortened mode K {x} {s} {A} {i} {o} h top word low high = go (rounded-scaled mode 32 K h (lit≤ tt) (lit≤ tt) (omega arith) word low (omega arith))
   where
@@ -41,7 +43,7 @@ shortened mode K {x} {s} {A} {i} {o} h top word low high = go (rounded-scaled mo
         let q = wholeOf mode s A (2 ^ c) in
         let most = powers-below 31 c K A (r .low) word in
         let least = below-powers 32 c 63 A top (r .high) in
-        let parts : 2 ^ c ≡ 2 ^ (c - 32) * 2 ^ 32 = ap (λ (m : ℕ). 2 ^ m) (let e : c ≡ c - 32 + 32 = omega arith in e) ∙ pow-add 2 (c - 32) 32 in
+        let parts : 2 ^ c ≡ 2 ^ (c - 32) * 2 ^ 32 = power-sum c (c - 32) 32 (omega arith) in
         let same : q * 2 ^ (c - 32) * 2 ^ 32 ≡ q * 2 ^ c = omega (arith, ap (λ (m : ℕ). q * m) parts) in
         record {
           number = r .number;
@@ -55,5 +57,5 @@ shortened mode K {x} {s} {A} {i} {o} h top word low high = go (rounded-scaled mo
         }
 
 -- The significand of a number: its upper half is left.
-pub word-shortened : (mode : Mode) {x : Fraction} {s : Bool} {c b S : ℕ} → 47000 ≤ c → InRange c b S → IsScaled x s S b origin → IsShortened mode 64 x s S (b + 32) origin
+pub word-shortened : (mode : Mode) {x : Fraction} {s : Bool} {c b S : ℕ} → lowestAfter 3 ≤ c → InRange c b S → IsScaled x s S b origin → IsShortened mode 64 x s S (b + 32) origin
 word-shortened mode low range h = shortened mode 64 (moved h (omega arith)) (range .top) (range .word) (omega (arith, origin-is)) (omega (arith, origin-is))

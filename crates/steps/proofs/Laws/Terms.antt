@@ -1,18 +1,23 @@
 -- The terms that the laws of the steps are stated in. The divisor is ± D × 2^b / 2^origin, with b its biased exponent.
 use mathlib.Core.Path.{_≡_}
 use mathlib.Core.Bool.{Bool, true, false}
-use Prim.Native.Nat.{ℕ, _+_, _*_, _^_, _≤_, _<_}
+use Prim.Native.Nat.{ℕ, _-_, _+_, _*_, _^_, _≤_, _<_}
 use lib.IntN.{natAbs}
+use Rattle.numbers.specs.Biased.{origin}
 use Rattle.numbers.specs.Number.{isWorking}
-use Rattle.numbers.specs.Fraction.{Equal, AtMost, Below, value, sum, difference, product, quotient, magnitude}
-use Rattle.numbers.specs.Rounding.{byMode, claim, isNegative}
+use Rattle.numbers.specs.Fraction.{Equal, AtMost, Below, value, sum, difference, product, quotient, magnitude, isNegative, scaled, IsScaled}
+use Rattle.numbers.specs.Rounding.{byMode, claim}
 use Rattle.numbers.specs.Answer.{given, rounded}
 use Rattle.numbers.specs.declared.number.Number.{Number}
 use Rattle.numbers.specs.declared.task.Mode.{Mode}
 use Rattle.numbers.specs.declared.task.Mode.the-variants.{Trunc, Away}
+use Rattle.division.proofs.Laws.Range.{half, InRange, IsBounded, lowestAdmissible}
 use Rattle.steps.specs.Steps.{seed, refined}
-use Rattle.division.proofs.Laws.Range.{half, InRange, IsRemainder}
-use Rattle.division.proofs.Laws.Scaled.{scaled, IsScaled, origin}
+
+-- The lowest biased exponent of the remainder after k digits: a digit drops 39 bits at least, and what is left of a
+-- remainder may have its top bit 127 lower, so 88 lower each time.
+abbrev pub lowestAfter : ℕ → ℕ
+lowestAfter k = lowestAdmissible - 88 * k
 
 -- ---- steps 1 to 6
 
@@ -68,7 +73,7 @@ pub record HasHalves (s : Bool) (b D : ℕ) (d : Number) : Type 0 where
 
 -- a divisor with its halves and its reciprocal
 pub record IsPrepared (s : Bool) (b D : ℕ) (d h l r : Number) : Type 0 where
-  pub range : InRange 49089 b D
+  pub range : InRange lowestAdmissible b D
   pub amount : IsScaled (value d) s D b origin
   pub halves : IsHalves s b D h l
   pub reciprocal : IsReciprocal s b D r
@@ -110,7 +115,7 @@ pub record HasNext (b D g c : ℕ) (d h l x q : Number) : Type 0 where
   pub less-step : rounded (claim 64) (difference (value x) (value high)) ≡ given less
   pub next-step : rounded (claim 64) (difference (value less) (value low)) ≡ given next
   pub rest : Equal (value x) (sum (product (value q) (value d)) (value next))
-  pub remainder : IsRemainder c next
+  pub remainder : IsBounded c next
   pub under : Under D g next
   pub below-unit : Below (magnitude (quotient (value next) (value d))) (scaled false 1 g (b + 64))
 

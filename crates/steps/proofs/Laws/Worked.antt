@@ -4,6 +4,7 @@ use mathlib.Core.Bool.{Bool, true, false, false≢true}
 use Prim.Native.Nat.{ℕ}
 use lib.Ieee.{minus}
 use lib.IntN.{ℤ}
+use Rattle.numbers.specs.Biased.{bias}
 use Rattle.numbers.specs.Answer.{given}
 use Rattle.numbers.specs.Fraction.{difference, product}
 use Rattle.numbers.specs.Number.{isAdmissible}
@@ -13,15 +14,15 @@ use Rattle.numbers.specs.declared.number.Number.the-variants.{Zero, Finite}
 use Rattle.numbers.specs.declared.task.Mode.the-variants.{Trunc, Away}
 use Rattle.numbers.specs.declared.task.Task.{Task}
 use Rattle.division.specs.Quotient.{isZero}
+use Rattle.division.proofs.Laws.Admissible.{admissible-parts}
+use Rattle.division.proofs.Laws.Range.{InRange, lowestAdmissible}
 use Rattle.steps.specs.Run.{HasComplement}
 use Rattle.steps.specs.Steps.{refined, lineOf, lineOfBoth, afterStep}
-use Rattle.division.proofs.Laws.Admissible.{admissible-parts}
 use Rattle.steps.proofs.Laws.Complement.{has-complement}
 use Rattle.steps.proofs.Laws.Halves.{halves}
 use Rattle.steps.proofs.Laws.Reciprocal.{reciprocal}
-use Rattle.division.proofs.Laws.Range.{InRange}
 use Rattle.steps.proofs.Laws.Terms.{HasReciprocal, HasHalves}
-use Rattle.steps.proofs.Lines.{line-1, line-2, line-3, line-4, line-5, line-6, line-7, line-8}
+use Rattle.steps.proofs.TableLines.{line-1, line-2, line-3, line-4, line-5, line-6, line-7, line-8}
 
 -- the reciprocal and the halves are the values after the steps
 pub record IsWorked {s : Bool} {b D : ℕ} {d : Number} (r : HasReciprocal s b D d) (h : HasHalves s b D d) (p : Number) (task : Task) : Type 0 where
@@ -62,8 +63,8 @@ has-complements p (Finite s e S) task fit nonzero =
     let a = admissible-parts (Finite s e S) fit in
     subst (λ (z : ℤ). HasComplement (afterStep p (Finite s z S) task 3) × HasComplement (afterStep p (Finite s z S) task 5)) (sym (a .1)) (complements (a .0) (a .2))
   where
-    complements : (b : ℕ) → InRange 49089 b S
-        → HasComplement (afterStep p (Finite s (minus b 65535) S) task 3) × HasComplement (afterStep p (Finite s (minus b 65535) S) task 5)
+    complements : (b : ℕ) → InRange lowestAdmissible b S
+        → HasComplement (afterStep p (Finite s (minus b bias) S) task 3) × HasComplement (afterStep p (Finite s (minus b bias) S) task 5)
     complements b range =
         let r = reciprocal s b S range in
         let w = worked r (halves s b S range) p task in

@@ -1,6 +1,6 @@
 -- What is cut from a text: a part that was cut before makes no difference, and what has room is not cut.
 use mathlib.Core.Path.{_≡_, refl, sym, ap, _∙_}
-use mathlib.Core.List.{List, [], _∷_, _++_, append-assoc}
+use mathlib.Core.List.{List, [], _∷_, _++_}
 use Prim.Native.Nat.{ℕ, zero, suc, _+_, _≤_, _<_}
 use native.Mathlib.Numerals.{add-one}
 use native.Mathlib.Omega.{arith}
@@ -10,7 +10,7 @@ use Rattle.text.specs.Text.{capacity, cut}
 
 -- ---- lists
 
-pub take-append-take : (n : ℕ) (xs ys : List ℕ) → take n (take n xs ++ ys) ≡ take n (xs ++ ys)
+take-append-take : (n : ℕ) (xs ys : List ℕ) → take n (take n xs ++ ys) ≡ take n (xs ++ ys)
 take-append-take zero xs ys = refl
 take-append-take (suc n) [] ys = refl
 take-append-take (suc n) (x ∷ xs) ys = ap (λ (l : List ℕ). x ∷ l) (take-append-take n xs ys)
@@ -23,13 +23,9 @@ unfolding cut
 uncut xs h = take-all capacity xs h
 
 -- one addition after others is one addition of all of them
-pub added : (acc : List ℕ) {a b : List ℕ} (more : List ℕ) → a ≡ cut acc → b ≡ cut (a ++ more) → b ≡ cut (acc ++ more)
+pub cut-append : (xs ys : List ℕ) → cut (cut xs ++ ys) ≡ cut (xs ++ ys)
 unfolding cut
-added acc more p q = q ∙ ap (λ (l : List ℕ). take capacity (l ++ more)) p ∙ take-append-take capacity acc more
-
--- two additions to a text are one
-pub both : (t : List ℕ) {a b : List ℕ} (x y : List ℕ) → a ≡ cut (t ++ x) → b ≡ cut (a ++ y) → b ≡ cut (t ++ (x ++ y))
-both t x y p q = added (t ++ x) y p q ∙ ap cut (append-assoc t x y)
+cut-append xs ys = take-append-take capacity xs ys
 
 -- ---- the array of a text, and the bytes before its length
 

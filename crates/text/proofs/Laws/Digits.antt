@@ -1,14 +1,13 @@
 -- The fewest decimal digits that hold a number are those of the definition.
-use mathlib.Core.Path.{_≡_, ap}
-use mathlib.Core.List.{List, [], _∷_, _++_}
-use Prim.Native.Nat.{ℕ, zero, suc, _-_, _*_, _/_, _%_, _^_, _≤_, _<_}
+use mathlib.Core.Path.{_≡_}
+use Prim.Native.Nat.{ℕ, zero, suc, _-_, _/_, _^_, _≤_, _<_}
 use native.Mathlib.Decide.{decLe}
-use native.Mathlib.Nat.{pow-suc, one-le-pow, pow-le-pow-right, mod-eq-of-lt, lt-of-not-le}
+use native.Mathlib.Nat.{one-le-pow, pow-le-pow-right, mod-eq-of-lt, lt-of-not-le}
 use native.Mathlib.Numerals.{unary-clauses}
 use native.Mathlib.Omega.{arith}
 use borrow.Author.Tests.{lt-ltb, le-ltb}
 use lib.Dec.{lit≤}
-use Rattle.io.specs.Digits.{digits, Fewest, glyph}
+use Rattle.io.specs.Digits.{digits, Fewest}
 use Rattle.text.specs.Text.{decimalBy, decimalOf, sixteenDigits}
 
 -- ---- how many digits
@@ -26,17 +25,6 @@ few b least most n k base h below f = go (decLe k most)
 
 -- ---- in decimal
 
--- a number of k + 1 digits has a tenth of k digits
-tenth : (n k : ℕ) → n < 10 ^ suc k → n / 10 < 10 ^ k
-tenth n k h = let p : 10 ^ suc k ≡ 10 ^ k * 10 = pow-suc 10 k in omega arith
-
-tenth-least : (n k : ℕ) → 10 ^ suc k ≤ n → 10 ^ k ≤ n / 10
-tenth-least n k h = let p : 10 ^ suc k ≡ 10 ^ k * 10 = pow-suc 10 k in omega arith
-
--- a number of two digits or more is no digit
-two-digits : (n k : ℕ) → 10 ^ suc k ≤ n → 10 ≤ n
-two-digits n k h = let p : 10 ^ suc k ≡ 10 ^ k * 10 = pow-suc 10 k in let one : 1 ≤ 10 ^ k = one-le-pow k 10 (omega arith) in omega arith
-
 by-most : (most k n : ℕ) → k ≤ most → Fewest 10 1 n k → digits 10 k n ≡ decimalBy most n
 unfolding decimalBy
 by-most most zero n h f = absurd (omega arith)
@@ -47,8 +35,8 @@ by-most (suc most) (suc zero) n h f =
 by-most (suc most) (suc (suc k)) n h f =
     let one-less : suc (suc k) - 1 ≡ suc k = omega arith in
     let least : 10 ^ suc k ≤ n = rw one-less at (f .2 (omega arith)) in
-    rw (le-ltb n 10 (two-digits n k least))
-    (ap (λ (l : List ℕ). l ++ (glyph (n % 10) ∷ [])) (by-most most (suc k) (n / 10) (omega arith) (omega arith, tenth n (suc k) (f .1), λ (more : 1 < suc k). simp unary-clauses (tenth-least n k least))))
+    let tenth : Fewest 10 1 (n / 10) (suc k) = (omega arith, omega (arith, f .1), λ (more : 1 < suc k). simp unary-clauses (omega arith)) in
+    rw (le-ltb n 10 (omega (arith, one-le-pow k 10 (lit≤ tt))), by-most most (suc k) (n / 10) (omega arith) tenth)
 
 pub decimal : (k n : ℕ) → n < 10 ^ 20 → Fewest 10 1 n k → digits 10 k n ≡ decimalOf n
 unfolding decimalOf

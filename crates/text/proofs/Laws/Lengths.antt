@@ -7,9 +7,9 @@ use native.Mathlib.Omega.{arith}
 use lib.Dec.{ltb, lit≤}
 use lib.IntN.{ℤ, pos, negsuc}
 use lib.ListN.{length, length-append}
-use Rattle.io.specs.Digits.{glyph, digits}
 use Rattle.numbers.specs.declared.number.Number.{Number}
 use Rattle.numbers.specs.declared.number.Number.the-variants.{Zero, Finite}
+use Rattle.io.specs.Digits.{glyph, digits}
 use Rattle.text.specs.Text.{ascii, decimalBy, decimalOf, sixteenDigits, integerText, figureText}
 
 by-most : (most n : ℕ) → length (decimalBy most n) ≤ most

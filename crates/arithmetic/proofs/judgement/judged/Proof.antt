@@ -10,9 +10,6 @@ use Rattle.arithmetic.specs.Private.{IsJudged}
 use Rattle.arithmetic.proofs.judgement.judged.Statement.{statement}
 use Rattle.arithmetic.proofs.judgement.judged.Tie as tie
 
-is-precision-requires : tie.Need-is-precision-requires
-is-precision-requires c κs = search needs
-
 returns : tie.Need-returns
 unfolding IsJudged
 returns c = λ x. bad-precision _ _ _ _ (sym (c .before .is-precision .ensures) ∙ not-true _ (c .if1 .taken))
@@ -21,18 +18,12 @@ returns c = λ x. bad-precision _ _ _ _ (sym (c .before .is-precision .ensures) 
 precise : (c : tie.Else1) → isPrecision (c .before .before .args .precision) ≡ true
 precise c = sym (c .before .is-precision .ensures) ∙ not-false _ (c .if1 .left)
 
-is-working-requires : tie.Need-is-working-requires
-is-working-requires c κs = search needs
-
 returns-2 : tie.Need-returns-2
 unfolding IsJudged
 returns-2 c = λ x. first-unfit _ _ _ _ (precise (c .before .before)) (sym (c .before .is-working .ensures) ∙ not-true _ (c .if2 .taken))
 
 first : (c : tie.Else2) → isWorking (c .before .before .before .before .args .a) ≡ true
 first c = sym (c .before .is-working .ensures) ∙ not-false _ (c .if2 .left)
-
-is-working-requires-2 : tie.Need-is-working-requires-2
-is-working-requires-2 c κs = search needs
 
 returns-3 : tie.Need-returns-3
 unfolding IsJudged
@@ -46,10 +37,10 @@ pub judged-spec : {M : Type 1} → statement M
 judged-spec =
     tie.close
     (tie.spec
-    is-precision-requires
+    (λ c κs. search needs)
     returns
-    is-working-requires
+    (λ c κs. search needs)
     returns-2
-    is-working-requires-2
+    (λ c κs. search needs)
     returns-3
     returns-4)

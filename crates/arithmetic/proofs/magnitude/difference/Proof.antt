@@ -9,17 +9,8 @@ use Rattle.arithmetic.proofs.magnitude.difference.Tie as tie
 sub-high : tie.Need-sub-high
 sub-high c = wide-le _ _ _ _ (c .before .before .pre) (c .before .struct-known .given .1 .0 .fits)
 
-wrapping-sub-u64-requires : tie.Need-wrapping-sub-u64-requires
-wrapping-sub-u64-requires c κs = search needs
-
 sub-t6 : tie.Need-sub-t6
 sub-t6 c = sub-pos-iff-lt .1 (wide-lt _ _ _ _ (c .before .before .before .before .before .before .pre) (c .if1 .taken))
 
-returns : tie.Need-returns
-returns c = wide-sum 1 _ _ _ _ _ _ (omega (arith, sub-t6 c)) (omega arith)
-
-returns-2 : tie.Need-returns-2
-returns-2 c = wide-sum 0 _ _ _ _ _ _ (omega (arith, sub-high (c .before .before .before .before))) (omega arith)
-
 pub difference-spec : {M : Type 1} → statement M
-difference-spec = tie.close (tie.spec sub-high wrapping-sub-u64-requires sub-t6 returns returns-2)
+difference-spec = tie.close (tie.spec sub-high (λ c κs. search needs) sub-t6 (λ c. wide-sum 1 _ _ _ _ _ _ (omega (arith, sub-t6 c)) (omega arith)) (λ c. wide-sum 0 _ _ _ _ _ _ (omega (arith, sub-high (c .before .before .before .before))) (omega arith)))

@@ -7,23 +7,21 @@ use lib.IntN.{ℤ, pos, _+ℤ_}
 use mir.Facts.{toZ-ofZ}
 use mir.Syntax.{w32}
 use mir.Val.{SFits, toZ, ofZ}
+use Rattle.numbers.specs.Biased.{bias, highestBiased}
 use Rattle.numbers.specs.Number.{isWorkingExponent}
 use Rattle.numbers.proofs.Laws.Bias.{biased-working}
 use Rattle.arithmetic.proofs.operand.biased.Statement.{statement}
 use Rattle.arithmetic.proofs.operand.biased.Tie as tie
 
 module _ (e : ℤ) (fits : SFits w32 e) (working : isWorkingExponent e ≡ true) where
-  small : (b : ℕ) → b ≤ 131071 → SFits w32 (pos b)
+  small : (b : ℕ) → b ≤ highestBiased → SFits w32 (pos b)
   small b h = record { sfits = omega arith }
 
-  sum-fits : SFits w32 (toZ w32 (ofZ w32 e) +ℤ pos 65535)
+  sum-fits : SFits w32 (toZ w32 (ofZ w32 e) +ℤ pos bias)
   sum-fits = let w = biased-working e working in rw (toZ-ofZ fits, w .1) (small (w .0) (w .2))
 
-  sum-is : toZ w32 (ofZ w32 (toZ w32 (ofZ w32 e) +ℤ pos 65535)) ≡ pos (biased-working e working .0)
-  sum-is = toZ-ofZ sum-fits ∙ ap (λ (z : ℤ). z +ℤ pos 65535) (toZ-ofZ fits) ∙ biased-working e working .1
-
-add-result : tie.Need-add-result
-add-result c = sum-fits (c .args .exponent) (c .fits .exponent) (c .pre)
+  sum-is : toZ w32 (ofZ w32 (toZ w32 (ofZ w32 e) +ℤ pos bias)) ≡ pos (biased-working e working .0)
+  sum-is = toZ-ofZ sum-fits ∙ ap (λ (z : ℤ). z +ℤ pos bias) (toZ-ofZ fits) ∙ biased-working e working .1
 
 cast-result : tie.Need-cast-result
 cast-result c =
@@ -36,4 +34,4 @@ returns c =
     rw (sum-is (c .args .exponent) (c .fits .exponent) (c .pre)) (w .3, w .2)
 
 pub biased-spec : {M : Type 1} → statement M
-biased-spec = tie.close (tie.spec add-result cast-result returns)
+biased-spec = tie.close (tie.spec (λ c. sum-fits (c .args .exponent) (c .fits .exponent) (c .pre)) cast-result returns)

@@ -10,20 +10,11 @@ use Rattle.arithmetic.proofs.Laws.Operands.{zero-operand, finite-operan
 use Rattle.arithmetic.proofs.operand.operand_of.Statement.{statement}
 use Rattle.arithmetic.proofs.operand.operand_of.Tie as tie
 
-enum-told : tie.Need-enum-told
-enum-told c = search needs
-
-enum-known-x : tie.Need-enum-known-x
-enum-known-x c = search needs
-
 biased-requires : tie.Need-biased-requires
 biased-requires c κs =
     let v = c .before .x .given in
     let fits : SFits w32 (v .0 .1 .0) = search needs in
     ap isWorkingExponent (toZ-ofZ fits) ∙ working-parts _ _ _ _ (c .before .before .before .pre) (v .1) .exponent
-
-returns : tie.Need-returns
-returns c = zero-operand _ _ (c .enum-told .given .1) refl
 
 returns-2 : tie.Need-returns-2
 returns-2 c =
@@ -32,4 +23,4 @@ returns-2 c =
     finite-operand _ _ _ _ _ (v .1) (c .before .before .before .before .pre) (sym (toZ-ofZ fits) ∙ c .biased .ensures .0) (c .biased .ensures .1)
 
 pub operand-of-spec : {M : Type 1} → statement M
-operand-of-spec = tie.close (tie.spec enum-told enum-known-x biased-requires returns returns-2)
+operand-of-spec = tie.close (tie.spec (λ c. search needs) (λ c. search needs) biased-requires (λ c. zero-operand _ _ (c .enum-told .given .1) refl) returns-2)

@@ -16,30 +16,9 @@ returns : tie.Need-returns
 unfolding outcome sumOf codedOf
 returns c = unknown-mode 6 _ _ (omega (arith, c .if1 .taken))
 
-judged-requires : tie.Need-judged-requires
-judged-requires c κs = search needs
-
-enum-told : tie.Need-enum-told
-enum-told c = search needs
-
-enum-told-2 : tie.Need-enum-told-2
-enum-told-2 c = search needs
-
-enum-told-3 : tie.Need-enum-told-3
-enum-told-3 c = search needs
-
-enum-told-4 : tie.Need-enum-told-4
-enum-told-4 c = search needs
-
 fit : (c : tie.After-enum-told4) → let args = c .before .before .before .before .args in AreFit (args .a) (args .b) (args .precision)
 unfolding IsJudged
 fit c = judged-as _ _ _ _ Fit (c .before .before .judged .ensures) (c .enum-told4 .given .1)
-
-exact-sum-requires : tie.Need-exact-sum-requires
-exact-sum-requires c κs = let f = fit c in search (f .0, f .1, zero-working)
-
-task-of-requires : tie.Need-task-of-requires
-task-of-requires c κs = search needs
 
 rounded-requires : tie.Need-rounded-requires
 rounded-requires c κs = let n = fit-coded sum _ _ _ _ _ (c .task-of .ensures) (fit (c .before .before)) in (c .before .exact-sum .ensures .biased, n .0, n .1)
@@ -67,13 +46,13 @@ add-spec =
     tie.close
     (tie.spec
     returns
-    judged-requires
-    enum-told
-    enum-told-2
-    enum-told-3
-    enum-told-4
-    exact-sum-requires
-    task-of-requires
+    (λ c κs. search needs)
+    (λ c. search needs)
+    (λ c. search needs)
+    (λ c. search needs)
+    (λ c. search needs)
+    (λ c κs. let f = fit c in search (f .0, f .1, zero-working))
+    (λ c κs. search needs)
     rounded-requires
     returns-2
     returns-3

@@ -6,8 +6,8 @@ use native.Mathlib.Omega.{arith}
 use borrow.Author.Needs.{needs}
 use Rattle.numbers.specs.Answer.{rounded}
 use Rattle.numbers.specs.Cell.{wide, endOf}
-use Rattle.numbers.specs.Magnitude.{scaledValue}
 use Rattle.numbers.specs.Rounding.{precisionOf}
+use Rattle.numbers.specs.Fraction.{scaled}
 use Rattle.numbers.specs.declared.task.Task.{Task}
 use Rattle.arithmetic.specs.Private.{lastBit, operandValue, IsOperand, exactValue, IsExact}
 use Rattle.arithmetic.specs.declared.operand.Operand.{Operand}
@@ -24,14 +24,8 @@ unfolding exactValue operandValue
 answers a is = record {
   biased = omega (arith, is .biased);
   rounds = λ (task : Task) (n0 : 1 ≤ precisionOf task) (n1 : precisionOf task ≤ 64).
-      ap (λ (F : ℕ). rounded task (scaledValue (a .negative) F (a .exponent + 65598) lastBit)) (low-alone (a .significand));
+      ap (λ (F : ℕ). rounded task (scaled (a .negative) F (a .exponent + 65598) lastBit)) (low-alone (a .significand));
 }
 
-add-t2 : tie.Need-add-t2
-add-t2 c = search needs
-
-returns : tie.Need-returns
-returns c = answers _ (c .before .pre)
-
 pub exact-operand-spec : {M : Type 1} → statement M
-exact-operand-spec = tie.close (tie.spec add-t2 returns)
+exact-operand-spec = tie.close (tie.spec (λ c. search needs) (λ c. answers _ (c .before .pre)))

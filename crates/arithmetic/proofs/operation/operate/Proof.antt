@@ -8,33 +8,16 @@ use Rattle.arithmetic.proofs.Laws.Entries.{judged-as, AreFit, fit-task,
 use Rattle.arithmetic.proofs.operation.operate.Statement.{statement}
 use Rattle.arithmetic.proofs.operation.operate.Tie as tie
 
-precision-of-requires : tie.Need-precision-of-requires
-precision-of-requires c κs = search needs
-
-judged-requires : tie.Need-judged-requires
-judged-requires c κs = search needs
-
-enum-told : tie.Need-enum-told
-enum-told c = search needs
-
-enum-told-2 : tie.Need-enum-told-2
-enum-told-2 c = search needs
-
-enum-told-3 : tie.Need-enum-told-3
-enum-told-3 c = search needs
-
-enum-told-4 : tie.Need-enum-told-4
-enum-told-4 c = search needs
-
 fit : (c : tie.After-enum-told4) → let start = c .before .before .before in AreFit (start .before .args .a) (start .before .args .b) (start .precision-of .result)
 unfolding IsJudged
 fit c = judged-as _ _ _ _ Fit (c .before .before .judged .ensures) (c .enum-told4 .given .1)
 
-exact-of-requires : tie.Need-exact-of-requires
-exact-of-requires c κs = let f = fit c in (f .0, f .1)
-
 rounded-requires : tie.Need-rounded-requires
-rounded-requires c κs = let known = c .before in let n = fit-task (exactOf (known .before .before .before .before .args .operation)) _ _ _ _ (known .before .before .before .precision-of .ensures) (fit known) in (c .exact-of .ensures .biased, n .0, n .1)
+rounded-requires c κs =
+    let known = c .before in
+    let start = known .before .before .before in
+    let n = fit-task (exactOf (start .before .args .operation)) _ _ (start .before .args .task) _ (start .precision-of .ensures) (fit known) in
+    (c .exact-of .ensures .biased, n .0, n .1)
 
 returns : tie.Need-returns
 unfolding outcome IsJudged
@@ -55,13 +38,13 @@ pub operate-spec : {M : Type 1} → statement M
 operate-spec =
     tie.close
     (tie.spec
-    precision-of-requires
-    judged-requires
-    enum-told
-    enum-told-2
-    enum-told-3
-    enum-told-4
-    exact-of-requires
+    (λ c κs. search needs)
+    (λ c κs. search needs)
+    (λ c. search needs)
+    (λ c. search needs)
+    (λ c. search needs)
+    (λ c. search needs)
+    (λ c κs. let f = fit c in (f .0, f .1))
     rounded-requires
     returns
     returns-2

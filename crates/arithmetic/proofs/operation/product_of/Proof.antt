@@ -5,16 +5,16 @@ use Prim.Native.Nat.{ℕ, _+_, _*_, _≤_}
 use native.Mathlib.Omega.{arith}
 use borrow.Author.Needs.{needs}
 use lib.Ieee.{unlike}
+use lib.Pow.{pow-pos}
 use Rattle.numbers.specs.Rounding.{precisionOf}
-use Rattle.numbers.specs.Fraction.{product}
+use Rattle.numbers.specs.Fraction.{product, scaled}
+use Rattle.numbers.specs.Cell.{wide, endOf}
 use Rattle.numbers.specs.declared.task.Task.{Task}
 use Rattle.numbers.proofs.Laws.Fractions.{product-fraction}
 use Rattle.numbers.proofs.Laws.Value.{same-outcome}
-use Rattle.numbers.specs.Cell.{wide, endOf}
-use Rattle.numbers.specs.Magnitude.{scaledValue}
 use Rattle.arithmetic.specs.Private.{lastBit, operandValue, IsOperand, exactValue, IsExact}
 use Rattle.arithmetic.specs.declared.operand.Operand.{Operand}
-use Rattle.arithmetic.proofs.Laws.Operands.{operand-fraction, scaled-fraction, product-value}
+use Rattle.arithmetic.proofs.Laws.Operands.{operand-fraction, product-value}
 use Rattle.arithmetic.proofs.operation.product_of.Statement.{statement}
 use Rattle.arithmetic.proofs.operation.product_of.Tie as tie
 
@@ -27,15 +27,9 @@ answers a b high low a-is b-is w =
       biased = omega (arith, a-is .biased, b-is .biased);
       rounds = λ (task : Task) (n0 : 1 ≤ precisionOf task) (n1 : precisionOf task ≤ 64).
           rw w
-          (sym (same-outcome task (product (operandValue a) (operandValue b)) (scaledValue s (a .significand * b .significand) (a .exponent + b .exponent) lastBit)
-          (product-fraction (operandValue a) (operandValue b) (operand-fraction a) (operand-fraction b)) (scaled-fraction s (a .significand * b .significand) (a .exponent + b .exponent)) n0 (product-value a b)));
+          (sym (same-outcome task (product (operandValue a) (operandValue b)) (scaled s (a .significand * b .significand) (a .exponent + b .exponent) lastBit)
+          (product-fraction (operandValue a) (operandValue b) (operand-fraction a) (operand-fraction b)) (pow-pos lastBit) n0 (product-value a b)));
     }
-
-product-requires : tie.Need-product-requires
-product-requires c κs = search needs
-
-add-t5 : tie.Need-add-t5
-add-t5 c = search needs
 
 returns : tie.Need-returns
 returns c =
@@ -43,4 +37,4 @@ returns c =
     answers _ _ _ _ (start .pre .0) (start .pre .1) (c .before .before .before .before .product .ensures)
 
 pub product-of-spec : {M : Type 1} → statement M
-product-of-spec = tie.close (tie.spec product-requires add-t5 returns)
+product-of-spec = tie.close (tie.spec (λ c κs. search needs) (λ c. search needs) returns)

@@ -10,8 +10,8 @@ use Rattle.numbers.specs.Number.{isWorking}
 use Rattle.numbers.specs.Rounding.{isPrecision, precisionOf}
 use Rattle.numbers.specs.declared.number.Number.{Number}
 use Rattle.numbers.specs.declared.task.Task.{Task}
+use Rattle.numbers.proofs.Laws.Scaled.{value-fraction}
 use Rattle.numbers.proofs.Laws.Refusals.{precision-range, bad-precision, first-unfit, first-fit}
-use Rattle.numbers.proofs.Laws.Rounded.{value-fraction}
 use Rattle.arithmetic.specs.Operations.{roundingOf}
 use Rattle.arithmetic.specs.Private.{operandValue, exactValue, IsExact}
 use Rattle.arithmetic.specs.declared.operand.Operand.{Operand}
@@ -25,19 +25,9 @@ same : (task : Task) (x : Number) (a : Operand) (r : Exact) (out : Outcome) → 
     → out ≡ rounded task (exactValue r) → out ≡ rounded task (value x)
 same task x a r out n is exact o = o ∙ exact-equal r (operandValue a) (value x) (operand-fraction a) (value-fraction x) is exact .rounds task (n .0) (n .1)
 
-precision-of-requires : tie.Need-precision-of-requires
-precision-of-requires c κs = search needs
-
-is-precision-requires : tie.Need-is-precision-requires
-is-precision-requires c κs = search needs
-
 -- what is judged is the task's precision
 judged : (c : tie.After-is-precision) → c .is-precision .result ≡ isPrecision (precisionOf (c .before .before .args .task))
 judged c = c .is-precision .ensures ∙ ap isPrecision (c .before .precision-of .ensures)
-
-returns : tie.Need-returns
-unfolding outcome roundingOf
-returns c = bad-precision _ _ _ _ (sym (judged (c .before)) ∙ not-true _ (c .if1 .taken))
 
 -- past a test, what it asks is so
 precise : (c : tie.Else1) → isPrecision (precisionOf (c .before .before .before .args .task)) ≡ true
@@ -45,15 +35,6 @@ precise c = sym (judged (c .before)) ∙ not-false _ (c .if1 .left)
 
 fit : (c : tie.Then2) → isWorking (c .before .before .before .before .before .args .x) ≡ true
 fit c = sym (c .before .is-working .ensures) ∙ c .if2 .taken
-
-is-working-requires : tie.Need-is-working-requires
-is-working-requires c κs = search needs
-
-operand-of-requires : tie.Need-operand-of-requires
-operand-of-requires c κs = fit c
-
-exact-operand-requires : tie.Need-exact-operand-requires
-exact-operand-requires c κs = search needs
 
 rounded-requires : tie.Need-rounded-requires
 rounded-requires c κs = let n = precision-range _ (precise (c .before .before .before .before)) in (c .exact-operand .ensures .biased, n .0, n .1)
@@ -65,20 +46,17 @@ returns-2 c =
     let exact = precise (f .before .before) in
     same _ _ _ _ _ (precision-range _ exact) (c .before .before .operand-of .ensures .0) (c .before .exact-operand .ensures) (c .rounded .ensures) ∙ first-fit _ _ _ _ exact (fit f)
 
-returns-3 : tie.Need-returns-3
-unfolding outcome roundingOf
-returns-3 c = first-unfit _ _ _ _ (precise (c .before .before)) (sym (c .before .is-working .ensures) ∙ c .if2 .left)
-
 pub round-spec : {M : Type 1} → statement M
+unfolding outcome roundingOf
 round-spec =
     tie.close
     (tie.spec
-    precision-of-requires
-    is-precision-requires
-    returns
-    is-working-requires
-    operand-of-requires
-    exact-operand-requires
+    (λ c κs. search needs)
+    (λ c κs. search needs)
+    (λ c. bad-precision _ _ _ _ (sym (judged (c .before)) ∙ not-true _ (c .if1 .taken)))
+    (λ c κs. search needs)
+    (λ c κs. fit c)
+    (λ c κs. search needs)
     rounded-requires
     returns-2
-    returns-3)
+    (λ c. first-unfit _ _ _ _ (precise (c .before .before)) (sym (c .before .is-working .ensures) ∙ c .if2 .left)))

@@ -11,18 +11,18 @@ use mir.Syntax.{w32}
 use mir.Val.{SFits, toZ, ofZ}
 use Rattle.numbers.specs.Answer.{rounded}
 use Rattle.numbers.specs.Cell.{endOf, cellRounding}
-use Rattle.numbers.specs.Magnitude.{scaledValue}
 use Rattle.numbers.specs.Rounding.{precisionOf}
+use Rattle.numbers.specs.Fraction.{scaled}
 use Rattle.numbers.specs.declared.task.Task.{Task}
-use Rattle.numbers.proofs.Laws.Bias.{pos-minus}
+use Rattle.numbers.proofs.Laws.Minus.{pos-minus}
 use Rattle.numbers.proofs.Laws.Refusals.{range-precision}
-use Rattle.numbers.proofs.Laws.Round.{scaled-binary}
-use Rattle.numbers.proofs.Laws.Signed.{minus-fits}
-use Rattle.arithmetic.specs.Private.{lastBit, exactValue}
+use Rattle.numbers.proofs.Laws.EveryValue.{scaled-binary}
+use Rattle.numbers.proofs.Laws.SignedWords.{minus-fits}
+use Rattle.arithmetic.specs.Private.{lastBit, highestExact, exactValue}
 use Rattle.arithmetic.proofs.rounding.rounded.Statement.{statement}
 use Rattle.arithmetic.proofs.rounding.rounded.Tie as tie
 
-module _ (x : ℕ) (h : x ≤ 262142) where
+module _ (x : ℕ) (h : x ≤ highestExact) where
   difference-is : toZ w32 x -ℤ pos 131196 ≡ minus x 131196
   difference-is = ap (λ (z : ℤ). z -ℤ pos 131196) (toZ-pos w32 {n = x} (omega arith)) ∙ pos-minus x 131196
 
@@ -34,18 +34,9 @@ module _ (x : ℕ) (h : x ≤ 262142) where
   exponent-is = toZ-ofZ difference-fits ∙ difference-is
 
 answers : (task : Task) (negative : Bool) (F x : ℕ) (rest : Bool) (e : ℤ) → 1 ≤ precisionOf task → precisionOf task ≤ 64 → e ≡ minus x lastBit
-    → cellRounding negative F rest e task ≡ rounded task (scaledValue negative (endOf F rest) x lastBit)
+    → cellRounding negative F rest e task ≡ rounded task (scaled negative (endOf F rest) x lastBit)
 unfolding cellRounding
 answers task negative F x rest e n0 n1 is = rw (range-precision (precisionOf task) n0 n1, is) (sym (scaled-binary task negative (endOf F rest) x lastBit n0))
-
-cast-exponent : tie.Need-cast-exponent
-cast-exponent c = search needs
-
-sub-exponent : tie.Need-sub-exponent
-sub-exponent c = difference-fits _ (c .before .pre .0)
-
-round-cell-requires : tie.Need-round-cell-requires
-round-cell-requires c κs = search needs
 
 returns : tie.Need-returns
 unfolding exactValue
@@ -54,4 +45,4 @@ returns c =
     c .round-cell .ensures .0 ∙ answers _ _ _ _ _ _ (start .pre .1) (start .pre .2) (exponent-is _ (start .pre .0))
 
 pub rounded-spec : {M : Type 1} → statement M
-rounded-spec = tie.close (tie.spec cast-exponent sub-exponent round-cell-requires returns)
+rounded-spec = tie.close (tie.spec (λ c. search needs) (λ c. difference-fits _ (c .before .pre .0)) (λ c κs. search needs) returns)

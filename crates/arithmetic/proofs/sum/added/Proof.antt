@@ -4,25 +4,10 @@ use Rattle.arithmetic.proofs.Laws.Aligned.{added-fits, added-answer}
 use Rattle.arithmetic.proofs.sum.added.Statement.{statement}
 use Rattle.arithmetic.proofs.sum.added.Tie as tie
 
-raised-requires : tie.Need-raised-requires
-raised-requires c κs = search needs
-
-raised-requires-2 : tie.Need-raised-requires-2
-raised-requires-2 c κs = search needs
-
-sub-shift-right : tie.Need-sub-shift-right
-sub-shift-right c = search needs
-
-shift-right-requires : tie.Need-shift-right-requires
-shift-right-requires c κs = search needs
-
 sum-requires : tie.Need-sum-requires
 sum-requires c κs =
     let start = c .before .before .before .before .before in
     added-fits _ _ (start .pre .0) _ _ _ (c .shift-right .result .rest) (c .before .before .before .before .raised .ensures) (c .before .before .before .raised2 .ensures) (c .shift-right .ensures .0) (c .shift-right .ensures .1)
-
-add-t7 : tie.Need-add-t7
-add-t7 c = search needs
 
 returns : tie.Need-returns
 returns c =
@@ -35,10 +20,10 @@ pub added-spec : {M : Type 1} → statement M
 added-spec =
     tie.close
     (tie.spec
-    raised-requires
-    raised-requires-2
-    sub-shift-right
-    shift-right-requires
+    (λ c κs. search needs)
+    (λ c κs. search needs)
+    (λ c. search needs)
+    (λ c κs. search needs)
     sum-requires
-    add-t7
+    (λ c. search needs)
     returns)

@@ -5,12 +5,9 @@ use Rattle.numbers.specs.Cell.{wide}
 use Rattle.arithmetic.proofs.sum.raised.Statement.{statement}
 use Rattle.arithmetic.proofs.sum.raised.Tie as tie
 
-mul-t4 : tie.Need-mul-t4
-mul-t4 c = search needs
-
 returns : tie.Need-returns
 unfolding wide
 returns c = omega arith
 
 pub raised-spec : {M : Type 1} → statement M
-raised-spec = tie.close (tie.spec mul-t4 returns)
+raised-spec = tie.close (tie.spec (λ c. search needs) returns)

@@ -4,25 +4,10 @@ use Rattle.arithmetic.proofs.Laws.Aligned.{subtracted-fits, borrowed-fi
 use Rattle.arithmetic.proofs.sum.subtracted.Statement.{statement}
 use Rattle.arithmetic.proofs.sum.subtracted.Tie as tie
 
-raised-requires : tie.Need-raised-requires
-raised-requires c κs = search needs
-
-raised-requires-2 : tie.Need-raised-requires-2
-raised-requires-2 c κs = search needs
-
-sub-shift-right : tie.Need-sub-shift-right
-sub-shift-right c = search needs
-
-shift-right-requires : tie.Need-shift-right-requires
-shift-right-requires c κs = search needs
-
 difference-requires : tie.Need-difference-requires
 difference-requires c κs =
     let start = c .before .before .before .before .before in
     subtracted-fits _ _ (start .pre .0) _ _ _ (c .shift-right .result .rest) (c .before .before .before .before .raised .ensures) (c .before .before .before .raised2 .ensures) (c .shift-right .ensures .0) (c .shift-right .ensures .1)
-
-borrow-requires : tie.Need-borrow-requires
-borrow-requires c κs = search needs
 
 difference-requires-2 : tie.Need-difference-requires-2
 difference-requires-2 c κs =
@@ -30,9 +15,6 @@ difference-requires-2 c κs =
     let start = cell .before .before .before .before .before in
     borrowed-fits _ _ (start .pre .0) _ _ _ (cell .shift-right .result .rest) (cell .before .before .before .before .raised .ensures) (cell .before .before .before .raised2 .ensures) (cell .shift-right .ensures .0)
     (cell .shift-right .ensures .1) _ _ (c .before .difference .ensures) (c .borrow .ensures)
-
-add-t8 : tie.Need-add-t8
-add-t8 c = search needs
 
 returns : tie.Need-returns
 returns c =
@@ -45,12 +27,12 @@ pub subtracted-spec : {M : Type 1} → statement M
 subtracted-spec =
     tie.close
     (tie.spec
-    raised-requires
-    raised-requires-2
-    sub-shift-right
-    shift-right-requires
+    (λ c κs. search needs)
+    (λ c κs. search needs)
+    (λ c. search needs)
+    (λ c κs. search needs)
     difference-requires
-    borrow-requires
+    (λ c κs. search needs)
     difference-requires-2
-    add-t8
+    (λ c. search needs)
     returns)

@@ -12,39 +12,24 @@ use Rattle.arithmetic.proofs.sum.sum_of.Tie as tie
 swapped : (x : Exact) (u v : Fraction) → IsExact x (sum u v) → IsExact x (sum v u)
 swapped x u v h = rw (sum-swap u v) at h
 
-aligned-requires : tie.Need-aligned-requires
-aligned-requires c κs = let start = c .before .before .before in (by-exponent _ _ (start .pre .1) (start .pre .0) (c .if1 .taken))
-
-returns : tie.Need-returns
-returns c = swapped _ _ _ (c .aligned .ensures)
-
 aligned-requires-2 : tie.Need-aligned-requires-2
 aligned-requires-2 c κs = let start = c .before .before .before .before .before .before in (by-exponent _ _ (start .pre .0) (start .pre .1) (c .if2 .taken))
-
-returns-2 : tie.Need-returns-2
-returns-2 c = search needs
 
 aligned-requires-3 : tie.Need-aligned-requires-3
 aligned-requires-3 c κs = let start = c .before .before .before .before .before .before .before .before .before in (by-significand _ _ (start .pre .1) (start .pre .0) (omega arith) (omega arith))
 
-returns-3 : tie.Need-returns-3
-returns-3 c = swapped _ _ _ (c .aligned3 .ensures)
-
 aligned-requires-4 : tie.Need-aligned-requires-4
 aligned-requires-4 c κs = let start = c .before .before .before .before .before .before .before .before .before in (by-significand _ _ (start .pre .0) (start .pre .1) (omega arith) (omega arith))
-
-returns-4 : tie.Need-returns-4
-returns-4 c = search needs
 
 pub sum-of-spec : {M : Type 1} → statement M
 sum-of-spec =
     tie.close
     (tie.spec
-    aligned-requires
-    returns
+    (λ c κs. let start = c .before .before .before in (by-exponent _ _ (start .pre .1) (start .pre .0) (c .if1 .taken)))
+    (λ c. swapped _ _ _ (c .aligned .ensures))
     aligned-requires-2
-    returns-2
+    (λ c. search needs)
     aligned-requires-3
-    returns-3
+    (λ c. swapped _ _ _ (c .aligned3 .ensures))
     aligned-requires-4
-    returns-4)
+    (λ c. search needs))

@@ -6,22 +6,21 @@ use Rattle.codes.proofs.Laws.Entries.{pack-unfit, pack-wrong-length, pa
 use Rattle.codes.proofs.pack.pack.Statement.{statement}
 use Rattle.codes.proofs.pack.pack.Tie as tie
 
-is-working-requires : tie.Need-is-working-requires
-is-working-requires c κs = search needs
-
 returns : tie.Need-returns
-returns c = pack-unfit _ _ _ _ (c .before .is-working .ensures) (not-true _ (c .if1 .taken))
-
-returns-2 : tie.Need-returns-2
-returns-2 c = pack-wrong-length _ _ _ _ (c .before .before .is-working .ensures) (not-false _ (c .before .if1 .left)) (c .if2 .taken)
-
-equal-code-requires : tie.Need-equal-code-requires
-equal-code-requires c κs = (c .before .before .before .pre, sym (c .before .before .is-working .ensures) ∙ not-false _ (c .before .if1 .left))
+returns c = pack-unfit _ _ _ (sym (c .before .is-working .ensures) ∙ not-true _ (c .if1 .taken))
 
 returns-3 : tie.Need-returns-3
 returns-3 c =
-    pack-code _ _ _ _ (c .before .before .before .is-working .ensures) (c .before .before .before .before .pre)
-    (not-false _ (c .before .before .if1 .left)) (c .before .if2 .left) _ (c .equal-code .ensures)
+    let tested = c .before .before in
+    let fit = sym (tested .before .is-working .ensures) ∙ not-false _ (tested .if1 .left) in
+    pack-code _ _ _ fit (tested .before .before .pre) (c .before .if2 .left) _ (c .equal-code .ensures)
 
 pub pack-spec : {M : Type 1} → statement M
-pack-spec = tie.close (tie.spec is-working-requires returns returns-2 equal-code-requires returns-3)
+pack-spec =
+    tie.close
+    (tie.spec
+    (λ c κs. search needs)
+    returns
+    (λ c. pack-wrong-length _ _ _ (sym (c .before .before .is-working .ensures) ∙ not-false _ (c .before .if1 .left)) (c .if2 .taken))
+    (λ c κs. (c .before .before .before .pre, sym (c .before .before .is-working .ensures) ∙ not-false _ (c .before .if1 .left)))
+    returns-3)

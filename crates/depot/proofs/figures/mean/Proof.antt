@@ -9,18 +9,6 @@ use Rattle.depot.proofs.Laws.Room.{quotient-same, quotient-refused, mea
 use Rattle.depot.proofs.figures.mean.Statement.{statement}
 use Rattle.depot.proofs.figures.mean.Tie as tie
 
-number-of-requires : tie.Need-number-of-requires
-number-of-requires c κs = search needs
-
-code-requires : tie.Need-code-requires
-code-requires c κs = search needs
-
-divide-requires : tie.Need-divide-requires
-divide-requires c κs = search needs
-
-enum-known-x : tie.Need-enum-known-x
-enum-known-x c = search needs
-
 -- what the division gives
 quotient-is : (c : tie.After-divide) → c .divide .result ≡ Given (meanOf (modeOf (c .before .before .before .args .side)) (c .before .before .before .args .total) (c .before .before .before .args .moved))
 quotient-is c =
@@ -34,4 +22,4 @@ returns-2 : tie.Need-returns-2
 returns-2 c = quotient-same _ _ _ (c .before .x .given .1) (quotient-is (c .before .before .before))
 
 pub mean-spec : {M : Type 1} → statement M
-mean-spec = tie.close (tie.spec number-of-requires code-requires divide-requires enum-known-x returns returns-2)
+mean-spec = tie.close (tie.spec (λ c κs. search needs) (λ c κs. search needs) (λ c κs. search needs) (λ c. search needs) returns returns-2)

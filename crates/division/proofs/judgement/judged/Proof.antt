@@ -12,18 +12,6 @@ use Rattle.division.proofs.Laws.Divisible.{unknown-mode, bad-precision,
 use Rattle.division.proofs.judgement.judged.Statement.{statement}
 use Rattle.division.proofs.judgement.judged.Tie as tie
 
-is-precision-requires : tie.Need-is-precision-requires
-is-precision-requires c κs = search needs
-
-is-admissible-requires : tie.Need-is-admissible-requires
-is-admissible-requires c κs = search needs
-
-is-admissible-requires-2 : tie.Need-is-admissible-requires-2
-is-admissible-requires-2 c κs = search needs
-
-is-zero-requires : tie.Need-is-zero-requires
-is-zero-requires c κs = search needs
-
 -- what is asked for rows 2 to 5, and known past each test
 returns : tie.Need-returns
 unfolding answeredBy
@@ -79,10 +67,10 @@ pub judged-spec : {M : Type 1} → statement M
 judged-spec =
     tie.close
     (tie.spec
-    is-precision-requires
-    is-admissible-requires
-    is-admissible-requires-2
-    is-zero-requires
+    (λ c κs. search needs)
+    (λ c κs. search needs)
+    (λ c κs. search needs)
+    (λ c κs. search needs)
     returns
     returns-2
     returns-3

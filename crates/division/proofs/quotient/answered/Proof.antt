@@ -24,9 +24,6 @@ not-refused SecondUnfit h keys = absurd h
 not-refused ExponentOutside h keys = absurd h
 not-refused TooManyBits h keys = absurd h
 
-enum-known-a : tie.Need-enum-known-a
-enum-known-a c = search needs
-
 returns : tie.Need-returns
 unfolding quotientOutcome
 returns c = not-refused _ (c .before .pre) (c .match .keys2)
@@ -36,4 +33,4 @@ unfolding quotientOutcome outcome
 returns-2 c = rw (c .before .a .given .1)
 
 pub answered-spec : {M : Type 1} → statement M
-answered-spec = tie.close (tie.spec enum-known-a returns returns-2)
+answered-spec = tie.close (tie.spec (λ c. search needs) returns returns-2)

@@ -7,12 +7,12 @@ use Rattle.numbers.specs.Fraction.{value, quotient}
 use Rattle.numbers.specs.Rounding.{taskOf}
 use Rattle.numbers.specs.declared.number.Number.{Number}
 use Rattle.numbers.specs.declared.task.Task.{Task}
-use Rattle.numbers.proofs.Laws.Refusals.{range-precision}
+use Rattle.numbers.proofs.Laws.Refusals.{range-precision, mode-of}
 use Rattle.division.specs.Quotient.{quotientOutcome, quotientOf}
 use Rattle.division.specs.Judgement.{IsTaken, answeredBy, IsTask}
 use Rattle.division.specs.Words.{IsGiven}
 use Rattle.division.specs.declared.judgement.Judgement.the-variants.{Divisible, UnknownMode, BadPrecision, FirstUnfit, SecondUnfit, ZeroDivisor}
-use Rattle.division.proofs.Laws.Divisible.{task-range, quotient-taken, mode-of, judged-as, divisible-taken}
+use Rattle.division.proofs.Laws.Divisible.{task-range, quotient-taken, judged-as, divisible-taken}
 use Rattle.division.proofs.Laws.Rounds.{quotient-given}
 use Rattle.division.proofs.quotient.divide.Statement.{statement}
 use Rattle.division.proofs.quotient.divide.Tie as tie
@@ -31,82 +31,36 @@ module _ {p d : Number} {code n : ℕ} (is : IsTaken p d code n) {task : Task} (
         let m = mode-of code n (is .mode) in
         rw (e ∙ ap (λ (t : Task). rounded t (quotient (value p) (value d))) (named ∙ m .1)) (quotient-given p d (is .dividend) (is .divisor) (is .nonzero) (m .0) n (is .precise .0) (is .precise .1))
 
-judged-requires : tie.Need-judged-requires
-judged-requires c κs = search needs
-
-enum-told : tie.Need-enum-told
-enum-told c = search needs
-
-enum-told-2 : tie.Need-enum-told-2
-enum-told-2 c = search needs
-
-enum-told-3 : tie.Need-enum-told-3
-enum-told-3 c = search needs
-
-enum-told-4 : tie.Need-enum-told-4
-enum-told-4 c = search needs
-
-enum-told-5 : tie.Need-enum-told-5
-enum-told-5 c = search needs
-
-enum-told-6 : tie.Need-enum-told-6
-enum-told-6 c = search needs
-
 divisible : (c : tie.After-enum-told6) → let args = c .before .before .before .args in IsTaken (args .p) (args .d) (args .code) (args .precision)
 unfolding answeredBy
 divisible c = divisible-taken _ _ _ _ (judged-as _ _ _ _ _ Divisible (c .before .before .judged .ensures) (c .enum-told6 .given .1))
-
-task-of-requires : tie.Need-task-of-requires
-task-of-requires c κs = search needs
 
 divided-requires : tie.Need-divided-requires
 divided-requires c κs =
     let is = divisible (c .before) in
     (is .dividend, is .divisor, is .nonzero, fit is (c .task-of .ensures))
 
-answered-requires : tie.Need-answered-requires
-answered-requires c κs = is-given (divisible (c .before .before)) (c .before .task-of .ensures) (c .divided .ensures)
-
-returns : tie.Need-returns
-unfolding quotientOutcome quotientOf answeredBy
-returns c = judged-as _ _ _ _ _ UnknownMode (c .before .before .judged .ensures) (c .enum-told .given .1) _
-
-returns-2 : tie.Need-returns-2
-unfolding quotientOutcome quotientOf answeredBy
-returns-2 c = judged-as _ _ _ _ _ BadPrecision (c .before .before .judged .ensures) (c .enum-told2 .given .1) _
-
-returns-3 : tie.Need-returns-3
-unfolding quotientOutcome quotientOf answeredBy
-returns-3 c = judged-as _ _ _ _ _ FirstUnfit (c .before .before .judged .ensures) (c .enum-told3 .given .1) _
-
-returns-4 : tie.Need-returns-4
-unfolding quotientOutcome quotientOf answeredBy
-returns-4 c = judged-as _ _ _ _ _ SecondUnfit (c .before .before .judged .ensures) (c .enum-told4 .given .1) _
-
-returns-5 : tie.Need-returns-5
-unfolding quotientOutcome quotientOf answeredBy
-returns-5 c = judged-as _ _ _ _ _ ZeroDivisor (c .before .before .judged .ensures) (c .enum-told5 .given .1) _
-
 returns-6 : tie.Need-returns-6
 returns-6 c = c .answered .ensures ∙ answer-is (divisible (c .before .before .before)) (c .before .before .task-of .ensures) (c .before .divided .ensures)
 
 pub divide-spec : {M : Type 1} → statement M
+unfolding quotientOutcome quotientOf answeredBy
 divide-spec =
     tie.close
     (tie.spec
-    judged-requires
-    enum-told
-    enum-told-2
-    enum-told-3
-    enum-told-4
-    enum-told-5
-    enum-told-6
-    task-of-requires
+    (λ c κs. search needs)
+    (λ c. search needs)
+    (λ c. search needs)
+    (λ c. search needs)
+    (λ c. search needs)
+    (λ c. search needs)
+    (λ c. search needs)
+    (λ c κs. search needs)
     divided-requires
-    answered-requires
-    returns
-    returns-2
-    returns-3
-    returns-4
-    returns-5
+    (λ c κs. is-given (divisible (c .before .before)) (c .before .task-of .ensures) (c .divided .ensures))
+    (λ c. judged-as _ _ _ _ _ UnknownMode (c .before .before .judged .ensures) (c .enum-told .given .1) _)
+    (λ c. judged-as _ _ _ _ _ BadPrecision (c .before .before .judged .ensures) (c .enum-told2 .given .1) _)
+    (λ c. judged-as _ _ _ _ _ FirstUnfit (c .before .before .judged .ensures) (c .enum-told3 .given .1) _)
+    (λ c. judged-as _ _ _ _ _ SecondUnfit (c .before .before .judged .ensures) (c .enum-told4 .given .1) _)
+    (λ c. judged-as _ _ _ _ _ ZeroDivisor (c .before .before .judged .ensures) (c .enum-told5 .given .1) _)
     returns-6)

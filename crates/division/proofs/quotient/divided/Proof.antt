@@ -12,9 +12,9 @@ use Rattle.numbers.specs.declared.number.Number.the-variants.{Zero}
 use Rattle.numbers.specs.declared.task.Task.{Task}
 use Rattle.numbers.proofs.Laws.Fractions.{quotient-zero}
 use Rattle.numbers.proofs.Laws.Value.{rounded-zero}
+use Rattle.numbers.proofs.Laws.Scaled.{zero-value}
 use Rattle.division.specs.Quotient.{isZero}
 use Rattle.division.proofs.Laws.Rounds.{both-significands, difference-fits, less-fits, exponent-is, quotient-rounds}
-use Rattle.division.proofs.Laws.Scaled.{zero-value}
 use Rattle.division.proofs.quotient.divided.Statement.{statement}
 use Rattle.division.proofs.quotient.divided.Tie as tie
 
@@ -26,24 +26,6 @@ zero-dividend task p d is = rw is (sym (rounded-zero task (quotient (value Zero)
 not-zero : (d : Number) → d ≡ Zero → isZero d ≡ false → ⊥
 unfolding isZero
 not-zero d is h = false≢true (sym h ∙ ap isZero is)
-
-enum-known-p : tie.Need-enum-known-p
-enum-known-p c = search needs
-
-enum-told : tie.Need-enum-told
-enum-told c = search needs
-
-returns : tie.Need-returns
-returns c = zero-dividend _ _ _ (c .enum-told .given .1)
-
-enum-known-d : tie.Need-enum-known-d
-enum-known-d c = search needs
-
-enum-told-2 : tie.Need-enum-told-2
-enum-told-2 c = search needs
-
-returns-2 : tie.Need-returns-2
-returns-2 c = absurd (not-zero _ (c .enum-told2 .given .1) (c .before .before .before .before .before .pre .2))
 
 digits-of-requires : tie.Need-digits-of-requires
 digits-of-requires c κs =
@@ -70,9 +52,6 @@ sub-round-cell-2 c =
     let d-fits : SFits w32 (d .0 .1 .0) = search needs in
     less-fits _ _ _ _ _ _ _ _ (p .1) (d .1) (start .pre .0) (start .pre .1) p-fits d-fits
 
-round-cell-requires : tie.Need-round-cell-requires
-round-cell-requires c κs = search needs
-
 returns-3 : tie.Need-returns-3
 returns-3 c =
     let start = c .before .before .before .before .before .before .before .before .before in
@@ -88,14 +67,14 @@ pub divided-spec : {M : Type 1} → statement M
 divided-spec =
     tie.close
     (tie.spec
-    enum-known-p
-    enum-told
-    returns
-    enum-known-d
-    enum-told-2
-    returns-2
+    (λ c. search needs)
+    (λ c. search needs)
+    (λ c. zero-dividend _ _ _ (c .enum-told .given .1))
+    (λ c. search needs)
+    (λ c. search needs)
+    (λ c. absurd (not-zero _ (c .enum-told2 .given .1) (c .before .before .before .before .before .pre .2)))
     digits-of-requires
     sub-round-cell
     sub-round-cell-2
-    round-cell-requires
+    (λ c κs. search needs)
     returns-3)

@@ -1,33 +1,9 @@
--- `division::significands::digits_of` meets its contract: the remainder after a digit is the next one's (Laws.Words).
+-- `division::significands::digits_of` meets its contract: the remainder after a digit is the next one's (Laws.DigitWords).
 use native.Mathlib.Omega.{arith}
 use borrow.Author.Needs.{needs}
-use Rattle.division.proofs.Laws.Words.{digit-bits, joined}
+use Rattle.division.proofs.Laws.DigitWords.{digit-bits, joined}
 use Rattle.division.proofs.significands.digits_of.Statement.{statement}
 use Rattle.division.proofs.significands.digits_of.Tie as tie
-
-reciprocal-of-requires : tie.Need-reciprocal-of-requires
-reciprocal-of-requires c κs = search needs
-
-first-bit-requires : tie.Need-first-bit-requires
-first-bit-requires c κs = search needs
-
-next-digit-requires : tie.Need-next-digit-requires
-next-digit-requires c κs = search needs
-
-next-digit-requires-2 : tie.Need-next-digit-requires-2
-next-digit-requires-2 c κs = search needs
-
-next-digit-requires-3 : tie.Need-next-digit-requires-3
-next-digit-requires-3 c κs = search needs
-
-mul-t8 : tie.Need-mul-t8
-mul-t8 c = search needs
-
-add-t10 : tie.Need-add-t10
-add-t10 c = search needs
-
-mul-t12 : tie.Need-mul-t12
-mul-t12 c = search needs
 
 mul-t13 : tie.Need-mul-t13
 mul-t13 c =
@@ -63,14 +39,14 @@ pub digits-of-spec : {M : Type 1} → statement M
 digits-of-spec =
     tie.close
     (tie.spec
-    reciprocal-of-requires
-    first-bit-requires
-    next-digit-requires
-    next-digit-requires-2
-    next-digit-requires-3
-    mul-t8
-    add-t10
-    mul-t12
+    (λ c κs. search needs)
+    (λ c κs. search needs)
+    (λ c κs. search needs)
+    (λ c κs. search needs)
+    (λ c κs. search needs)
+    (λ c. search needs)
+    (λ c. search needs)
+    (λ c. search needs)
     mul-t13
     add-t14
     add-t15

@@ -1,4 +1,4 @@
--- `division::significands::next_digit` meets its contract: the estimate is the digit or one less, and what is left is exact in two halves (Laws.Words).
+-- `division::significands::next_digit` meets its contract: the estimate is the digit or one less, and what is left is exact in two halves (Laws.DigitWords).
 use mathlib.Core.Path.{_≡_, refl}
 use mathlib.Core.Bool.{Bool, true, false}
 use Prim.Native.Nat.{ℕ, _+_, _-_, _*_, _/_, _%_, _^_, _≤_, _<_}
@@ -8,7 +8,7 @@ use lib.Dec.{ltb}
 use mir.Facts.{fits-of-lt}
 use mir.Val.{boolByte}
 use Rattle.division.specs.Words.{IsSignificand, IsReciprocalWord, IsQuotient}
-use Rattle.division.proofs.Laws.Words.{product-fits, digit-product-fits, digit-product-more, digit-product-lent, estimate, estimate-small, estimate-below, estimate-above, left-fits, left-is, corrected}
+use Rattle.division.proofs.Laws.DigitWords.{product-fits, digit-product-fits, digit-product-more, digit-product-lent, estimate, estimate-small, estimate-below, estimate-above, left-fits, left-is, corrected}
 use Rattle.division.proofs.significands.next_digit.Statement.{statement}
 use Rattle.division.proofs.significands.next_digit.Tie as tie
 
@@ -60,26 +60,8 @@ taken-fits : (more : Bool) (D : ℕ) → D < 2 ^ 64 → boolByte more * D < 2 ^ 
 taken-fits false D h = omega arith
 taken-fits true D h = omega arith
 
-mul-digit : tie.Need-mul-digit
-mul-digit c = fits-of-lt (product-fits _ _ (omega (arith, c .fits .remainder .fits)) (c .pre .1 .word))
-
-mul-low : tie.Need-mul-low
-mul-low c = search needs
-
-add-low : tie.Need-add-low
-add-low c = search needs
-
 mul-low-2 : tie.Need-mul-low-2
 mul-low-2 c = fits-of-lt (digit-product-fits _ _ _ (omega (arith, c .fits .remainder .fits)) (c .pre .1 .word) (omega arith))
-
-sub-low : tie.Need-sub-low
-sub-low c = digit-product-lent _ _ _ (omega (arith, c .fits .remainder .fits)) (c .pre .1 .word) (omega arith) _
-
-mul-left1 : tie.Need-mul-left1
-mul-left1 c = search needs
-
-add-left1 : tie.Need-add-left1
-add-left1 c = search needs
 
 mul-left1-2 : tie.Need-mul-left1-2
 mul-left1-2 c = fits-of-lt (digit-product-fits _ _ _ (omega (arith, c .fits .remainder .fits)) (c .pre .1 .word) (omega (arith, c .pre .0 .word)))
@@ -87,35 +69,8 @@ mul-left1-2 c = fits-of-lt (digit-product-fits _ _ _ (omega (arith, c .fits .rem
 add-left1-2 : tie.Need-add-left1-2
 add-left1-2 c = fits-of-lt (digit-product-more _ _ _ (omega (arith, c .fits .remainder .fits)) (c .pre .1 .word) (omega (arith, c .pre .0 .word)))
 
-sub-left1 : tie.Need-sub-left1
-sub-left1 c = taken-off (c .pre .0) (c .pre .1) (c .pre .2)
-
-add-lent : tie.Need-add-lent
-add-lent c = search needs
-
-sub-lent : tie.Need-sub-lent
-sub-lent c = search needs
-
-add-over : tie.Need-add-over
-add-over c = search needs
-
-cast-correction : tie.Need-cast-correction
-cast-correction c = search needs
-
-mul-left : tie.Need-mul-left
-mul-left c = search needs
-
-add-left : tie.Need-add-left
-add-left c = search needs
-
 add-t20 : tie.Need-add-t20
 add-t20 c = record { fits = omega (arith, small (c .pre .0) (c .pre .1) (c .pre .2), correction-small (more (c .pre .0) (c .pre .1) (c .pre .2))) }
-
-mul-wrapping-sub-u64 : tie.Need-mul-wrapping-sub-u64
-mul-wrapping-sub-u64 c = fits-of-lt (taken-fits (more (c .pre .0) (c .pre .1) (c .pre .2)) _ (c .pre .0 .word))
-
-wrapping-sub-u64-requires : tie.Need-wrapping-sub-u64-requires
-wrapping-sub-u64-requires c κs = search needs
 
 returns : tie.Need-returns
 returns c =
@@ -126,23 +81,23 @@ pub next-digit-spec : {M : Type 1} → statement M
 next-digit-spec =
     tie.close
     (tie.spec
-    mul-digit
-    mul-low
-    add-low
+    (λ c. fits-of-lt (product-fits _ _ (omega (arith, c .fits .remainder .fits)) (c .pre .1 .word)))
+    (λ c. search needs)
+    (λ c. search needs)
     mul-low-2
-    sub-low
-    mul-left1
-    add-left1
+    (λ c. digit-product-lent _ _ _ (omega (arith, c .fits .remainder .fits)) (c .pre .1 .word) (omega arith) _)
+    (λ c. search needs)
+    (λ c. search needs)
     mul-left1-2
     add-left1-2
-    sub-left1
-    add-lent
-    sub-lent
-    add-over
-    cast-correction
-    mul-left
-    add-left
+    (λ c. taken-off (c .pre .0) (c .pre .1) (c .pre .2))
+    (λ c. search needs)
+    (λ c. search needs)
+    (λ c. search needs)
+    (λ c. search needs)
+    (λ c. search needs)
+    (λ c. search needs)
     add-t20
-    mul-wrapping-sub-u64
-    wrapping-sub-u64-requires
+    (λ c. fits-of-lt (taken-fits (more (c .pre .0) (c .pre .1) (c .pre .2)) _ (c .pre .0 .word)))
+    (λ c κs. search needs)
     returns)

@@ -1,10 +1,10 @@
--- `division::significands::reciprocal_of` meets its contract: the seed is near, and each step is nearer (Laws.Words).
+-- `division::significands::reciprocal_of` meets its contract: the seed is near, and each step is nearer (Laws.DigitWords).
 use mathlib.Core.Path.{_≡_, ap}
 use Prim.Native.Nat.{ℕ, _*_, _^_}
 use borrow.Author.Needs.{needs}
 use Rattle.division.specs.Words.{IsSignificand, refinedWord, HasProducts, IsReciprocalWord}
 use Rattle.division.proofs.Laws.Seeds.{entryFor}
-use Rattle.division.proofs.Laws.Words.{roundedUp, seed-near, products, next, reciprocal-word}
+use Rattle.division.proofs.Laws.DigitWords.{roundedUp, seed-near, products, next, reciprocal-word}
 use Rattle.division.proofs.significands.reciprocal_of.Statement.{statement}
 use Rattle.division.proofs.significands.reciprocal_of.Tie as tie
 
@@ -17,24 +17,6 @@ module _ (D T : ℕ) (d : IsSignificand D) (entry : T ≡ entryFor D) where
 
   twice : (x y : ℕ) → x ≡ refinedWord (roundedUp D) (T * 2 ^ 24) → y ≡ refinedWord (roundedUp D) x → IsReciprocalWord D y
   twice x y e f = rw (f, e) (reciprocal-word D d (T * 2 ^ 24) (ap (λ (n : ℕ). n * 2 ^ 24) entry))
-
-sub-dr : tie.Need-sub-dr
-sub-dr c = search needs
-
-add-dr : tie.Need-add-dr
-add-dr c = search needs
-
-entry-for-requires : tie.Need-entry-for-requires
-entry-for-requires c κs = search needs
-
-cast-seed : tie.Need-cast-seed
-cast-seed c = search needs
-
-mul-seed : tie.Need-mul-seed
-mul-seed c = search needs
-
-refined-requires : tie.Need-refined-requires
-refined-requires c κs = first _ _ (c .before .pre) (c .entry-for .ensures)
 
 refined-requires-2 : tie.Need-refined-requires-2
 refined-requires-2 c κs =
@@ -49,11 +31,11 @@ pub reciprocal-of-spec : {M : Type 1} → statement M
 reciprocal-of-spec =
     tie.close
     (tie.spec
-    sub-dr
-    add-dr
-    entry-for-requires
-    cast-seed
-    mul-seed
-    refined-requires
+    (λ c. search needs)
+    (λ c. search needs)
+    (λ c κs. search needs)
+    (λ c. search needs)
+    (λ c. search needs)
+    (λ c κs. first _ _ (c .before .pre) (c .entry-for .ensures))
     refined-requires-2
     returns)

@@ -1,74 +1,26 @@
 -- `export::call::outcome_of` meets its contract: each answer is the outcome of the same number.
 use borrow.Author.Needs.{needs}
 use Rattle.numbers.specs.Answer.{outcome}
-use Rattle.export.specs.Operands.{outcomeOf}
+use Rattle.export.specs.Enums.{outcomeOf}
 use Rattle.export.proofs.call.outcome_of.Statement.{statement}
 use Rattle.export.proofs.call.outcome_of.Tie as tie
 
-enum-known-answer : tie.Need-enum-known-answer
-enum-known-answer c = search needs
-
-enum-told : tie.Need-enum-told
-enum-told c = search needs
-
-enum-told-2 : tie.Need-enum-told-2
-enum-told-2 c = search needs
-
-enum-told-3 : tie.Need-enum-told-3
-enum-told-3 c = search needs
-
-enum-told-4 : tie.Need-enum-told-4
-enum-told-4 c = search needs
-
-enum-told-5 : tie.Need-enum-told-5
-enum-told-5 c = search needs
-
-enum-told-6 : tie.Need-enum-told-6
-enum-told-6 c = search needs
-
-returns : tie.Need-returns
-unfolding outcomeOf outcome
-returns c = rw (c .before .answer .given .1)
-
-returns-2 : tie.Need-returns-2
-unfolding outcomeOf outcome
-returns-2 c = rw (c .enum-told .given .1)
-
-returns-3 : tie.Need-returns-3
-unfolding outcomeOf outcome
-returns-3 c = rw (c .enum-told2 .given .1)
-
-returns-4 : tie.Need-returns-4
-unfolding outcomeOf outcome
-returns-4 c = rw (c .enum-told3 .given .1)
-
-returns-5 : tie.Need-returns-5
-unfolding outcomeOf outcome
-returns-5 c = rw (c .enum-told4 .given .1)
-
-returns-6 : tie.Need-returns-6
-unfolding outcomeOf outcome
-returns-6 c = rw (c .enum-told5 .given .1)
-
-returns-7 : tie.Need-returns-7
-unfolding outcomeOf outcome
-returns-7 c = rw (c .enum-told6 .given .1)
-
 pub outcome-of-spec : {M : Type 1} → statement M
+unfolding outcomeOf outcome
 outcome-of-spec =
     tie.close
     (tie.spec
-    enum-known-answer
-    enum-told
-    enum-told-2
-    enum-told-3
-    enum-told-4
-    enum-told-5
-    enum-told-6
-    returns
-    returns-2
-    returns-3
-    returns-4
-    returns-5
-    returns-6
-    returns-7)
+    (λ c. search needs)
+    (λ c. search needs)
+    (λ c. search needs)
+    (λ c. search needs)
+    (λ c. search needs)
+    (λ c. search needs)
+    (λ c. search needs)
+    (λ c. rw (c .before .answer .given .1))
+    (λ c. search needs)
+    (λ c. search needs)
+    (λ c. search needs)
+    (λ c. search needs)
+    (λ c. search needs)
+    (λ c. search needs))

@@ -10,27 +10,6 @@ use Rattle.export.proofs.Laws.Words.{upper-read}
 use Rattle.export.proofs.layout.read.Statement.{statement}
 use Rattle.export.proofs.layout.read.Tie as tie
 
-slice-aggregate-read-word : tie.Need-slice-aggregate-read-word
-slice-aggregate-read-word c = sym (first-length 8 16 (lit≤ tt) (c .before .before .args .bytes .now) (c .before .before .pre))
-
-read-word-requires : tie.Need-read-word-requires
-read-word-requires c κs = first-length 8 16 (lit≤ tt) (c .before .before .args .bytes .now) (c .before .before .pre)
-
-sub-read-word : tie.Need-sub-read-word
-sub-read-word c = search needs
-
-part-read-word-start : tie.Need-part-read-word-start
-part-read-word-start c = search needs
-
-part-read-word-end : tie.Need-part-read-word-end
-part-read-word-end c = search needs
-
-read-word-requires-2 : tie.Need-read-word-requires-2
-read-word-requires-2 c κs = search needs
-
-number-of-requires : tie.Need-number-of-requires
-number-of-requires c κs = search needs
-
 returns : tie.Need-returns
 unfolding IsBytes numberIn
 returns c =
@@ -42,11 +21,11 @@ pub read-spec : {M : Type 1} → statement M
 read-spec =
     tie.close
     (tie.spec
-    slice-aggregate-read-word
-    read-word-requires
-    sub-read-word
-    part-read-word-start
-    part-read-word-end
-    read-word-requires-2
-    number-of-requires
+    (λ c. sym (first-length 8 16 (lit≤ tt) (c .before .before .args .bytes .now) (c .before .before .pre)))
+    (λ c κs. first-length 8 16 (lit≤ tt) (c .before .before .args .bytes .now) (c .before .before .pre))
+    (λ c. search needs)
+    (λ c. search needs)
+    (λ c. search needs)
+    (λ c κs. search needs)
+    (λ c κs. search needs)
     returns)

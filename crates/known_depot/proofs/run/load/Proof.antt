@@ -5,31 +5,16 @@ use borrow.Author.Needs.{needs}
 use Rattle.known_depot.proofs.run.load.Statement.{statement}
 use Rattle.known_depot.proofs.run.load.Tie as tie
 
-leave-requires : tie.Need-leave-requires
-leave-requires c κs = search needs
-
-returns : tie.Need-returns
-returns c = search needs
-
 array-borrow-prefix-space : tie.Need-array-borrow-prefix-space
 array-borrow-prefix-space c = search needs
-
-slice-aggregate-load-read : tie.Need-slice-aggregate-load-read
-slice-aggregate-load-read c = sym (length-take-le _ _ (array-borrow-prefix-space (c .before)))
-
-load-read-requires : tie.Need-load-read-requires
-load-read-requires c κs = search needs
-
-returns-2 : tie.Need-returns-2
-returns-2 c = search needs
 
 pub load-spec : {M : Type 1} → statement M
 load-spec =
     tie.close
     (tie.spec
-    leave-requires
-    returns
+    (λ c κs. search needs)
+    (λ c. search needs)
     array-borrow-prefix-space
-    slice-aggregate-load-read
-    load-read-requires
-    returns-2)
+    (λ c. sym (length-take-le _ _ (array-borrow-prefix-space (c .before))))
+    (λ c κs. search needs)
+    (λ c. search needs))

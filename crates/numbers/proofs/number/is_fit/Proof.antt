@@ -39,15 +39,6 @@ module _ (lowest highest : ℤ) (x : Number) where
 as-read : {a b : ℤ} {t : Bool} → SFits w32 a → SFits w32 b → leZ (toZ w32 (ofZ w32 a)) (toZ w32 (ofZ w32 b)) ≡ t → leZ a b ≡ t
 as-read ha hb e = sym (ap₂ leZ (toZ-ofZ ha) (toZ-ofZ hb)) ∙ e
 
-enum-known-x : tie.Need-enum-known-x
-enum-known-x c = search needs
-
-enum-told : tie.Need-enum-told
-enum-told c = search needs
-
-returns : tie.Need-returns
-returns c = zero-fit _ _ _ (c .enum-told .given .1)
-
 returns-2 : tie.Need-returns-2
 returns-2 c =
     let start = c .before .before .before .before .before in
@@ -68,4 +59,4 @@ returns-4 c =
     below _ _ _ _ _ _ (v .1) (as-read (c .before .before .before .before .fits .lowest) fits (c .if1 .left))
 
 pub is-fit-spec : {M : Type 1} → statement M
-is-fit-spec = tie.close (tie.spec enum-known-x enum-told returns returns-2 returns-3 returns-4)
+is-fit-spec = tie.close (tie.spec (λ c. search needs) (λ c. search needs) (λ c. zero-fit _ _ _ (c .enum-told .given .1)) returns-2 returns-3 returns-4)

@@ -21,15 +21,6 @@ of-finite : (x : Number) (s : Bool) (e : ℤ) (S : ℕ) → x ≡ Finite s e S �
 unfolding negated
 of-finite x s e S k fits = rw (k, toZ-ofZ fits)
 
-enum-told : tie.Need-enum-told
-enum-told c = search needs
-
-enum-known-x : tie.Need-enum-known-x
-enum-known-x c = search needs
-
-returns : tie.Need-returns
-returns c = of-zero _ (c .enum-told .given .1)
-
 returns-2 : tie.Need-returns-2
 returns-2 c =
     let v = c .before .x .given in
@@ -37,4 +28,4 @@ returns-2 c =
     of-finite _ _ _ _ (v .1) fits
 
 pub negated-spec : {M : Type 1} → statement M
-negated-spec = tie.close (tie.spec enum-told enum-known-x returns returns-2)
+negated-spec = tie.close (tie.spec (λ c. search needs) (λ c. search needs) (λ c. of-zero _ (c .enum-told .given .1)) returns-2)

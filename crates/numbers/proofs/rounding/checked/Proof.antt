@@ -9,13 +9,13 @@ use lib.IntN.{ℤ}
 use mir.Facts.{toZ-ofZ}
 use mir.Syntax.{w32}
 use mir.Val.{SFits, toZ, ofZ}
+use Rattle.numbers.specs.Biased.{bias, raise, highestBiased}
 use Rattle.numbers.specs.Answer.{outcome, checked}
 use Rattle.numbers.specs.Number.{isWorkingExponent}
 use Rattle.numbers.specs.declared.answer.Answer.the-variants.{Given, ExponentOutside}
 use Rattle.numbers.specs.declared.number.Number.the-variants.{Finite}
+use Rattle.numbers.proofs.Laws.Minus.{minus-same}
 use Rattle.numbers.proofs.Laws.Bias.{working-range}
-use Rattle.numbers.proofs.Laws.Exponent.{minus-same}
-use Rattle.numbers.specs.Magnitude.{raise}
 use Rattle.numbers.proofs.rounding.checked.Statement.{statement}
 use Rattle.numbers.proofs.rounding.checked.Tie as tie
 
@@ -24,23 +24,18 @@ module _ (negative : Bool) (S x z : ℕ) (inside : Bool) (e : inside ≡ isWorki
   unfolding outcome checked
   outside h = rw (sym e ∙ h)
 
-  range : inside ≡ true → (z + 2147417986 ≤ x) × (x - (z + 2147417986) ≤ 131071)
+  -- 2,147,417,986 is 2^31 − 65,535 − 127
+  range : inside ≡ true → (z + 2147417986 ≤ x) × (x - (z + 2147417986) ≤ highestBiased)
   unfolding raise
   range h = let r = working-range (x + 127) (raise + z) (sym e ∙ h) in (omega (arith, r .0), omega (arith, r .1))
 
-  same : inside ≡ true → minus (x - (z + 2147417986)) 65535 ≡ minus (x + 127) (raise + z)
+  same : inside ≡ true → minus (x - (z + 2147417986)) bias ≡ minus (x + 127) (raise + z)
   unfolding raise
-  same h = let r = working-range (x + 127) (raise + z) (sym e ∙ h) in minus-same (x - (z + 2147417986)) 65535 (x + 127) (raise + z) (omega (arith, r .0))
+  same h = let r = working-range (x + 127) (raise + z) (sym e ∙ h) in minus-same (x - (z + 2147417986)) bias (x + 127) (raise + z) (omega (arith, r .0))
 
-  fit : inside ≡ true → (r : ℤ) → SFits w32 r → r ≡ minus (x - (z + 2147417986)) 65535 → outcome (Given (Finite negative (toZ w32 (ofZ w32 r)) S)) ≡ checked (Finite negative (minus (x + 127) (raise + z)) S)
+  fit : inside ≡ true → (r : ℤ) → SFits w32 r → r ≡ minus (x - (z + 2147417986)) bias → outcome (Given (Finite negative (toZ w32 (ofZ w32 r)) S)) ≡ checked (Finite negative (minus (x + 127) (raise + z)) S)
   unfolding outcome checked
   fit h r fits k = rw (toZ-ofZ fits, k ∙ same h, sym e ∙ h)
-
-is-inside-requires : tie.Need-is-inside-requires
-is-inside-requires c κs = search needs
-
-add-unbiased : tie.Need-add-unbiased
-add-unbiased c = search needs
 
 sub-unbiased : tie.Need-sub-unbiased
 sub-unbiased c = range (c .before .before .args .negative) (c .before .before .args .significand) _ _ _ (c .before .is-inside .ensures) (c .if1 .taken) .0
@@ -51,10 +46,7 @@ unbiased-requires c κs = range (c .before .before .args .negative) (c .before .
 returns : tie.Need-returns
 returns c = fit _ _ _ _ _ (c .before .before .is-inside .ensures) (c .before .if1 .taken) _ (record { sfits = c .unbiased .ok }) (c .unbiased .ensures)
 
-returns-2 : tie.Need-returns-2
-returns-2 c = outside _ _ _ _ _ (c .before .is-inside .ensures) (c .if1 .left)
-
 pub checked-spec : {M : Type 1} → statement M
 checked-spec =
     tie.close
-    (tie.spec is-inside-requires add-unbiased sub-unbiased unbiased-requires returns returns-2)
+    (tie.spec (λ c κs. search needs) (λ c. search needs) sub-unbiased unbiased-requires returns (λ c. outside _ _ _ _ _ (c .before .is-inside .ensures) (c .if1 .left)))

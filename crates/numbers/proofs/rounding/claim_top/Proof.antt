@@ -8,12 +8,12 @@ use borrow.Author.Tests.{not-true, not-false, ltb-true, ltb-false, ne-eqb, eq-eq
 use lib.Dec.{ltb}
 use lib.IntN.{ℤ}
 use Rattle.numbers.specs.Answer.{given, outcome, checked, judged}
-use Rattle.numbers.specs.Grid.{digit}
+use Rattle.numbers.specs.Grid.{bitOf}
 use Rattle.numbers.specs.Number.{isWorkingExponent}
-use Rattle.numbers.specs.declared.answer.Answer.the-variants.{ExponentOutside, TooManyBits}
-use Rattle.numbers.specs.declared.number.Number.the-variants.{Finite}
 use Rattle.numbers.specs.Cell.{wide}
 use Rattle.numbers.specs.Magnitude.{claimedTop}
+use Rattle.numbers.specs.declared.answer.Answer.the-variants.{ExponentOutside, TooManyBits}
+use Rattle.numbers.specs.declared.number.Number.the-variants.{Finite}
 use Rattle.numbers.proofs.Laws.Top.{top-bits, upper-bits}
 use Rattle.numbers.proofs.rounding.claim_top.Statement.{statement}
 use Rattle.numbers.proofs.rounding.claim_top.Tie as tie
@@ -23,7 +23,7 @@ unfolding outcome claimedTop judged
 outside negative e n F inside judged h = rw (sym judged ∙ h)
 
 module _ (negative : Bool) (e : ℤ) (F n high low : ℕ) (rest inside inexact : Bool) (n1 : n ≤ 64) (word : low < 2 ^ 64)
-    (shifted : wide high low ≡ F / 2 ^ (64 - n)) (dropped : rest ≡ ltb 0 (F % 2 ^ (64 - n))) (judged : inside ≡ isWorkingExponent e) (some : inexact ≡ ltb 0 (2 * low + digit rest)) where
+    (shifted : wide high low ≡ F / 2 ^ (64 - n)) (dropped : rest ≡ ltb 0 (F % 2 ^ (64 - n))) (judged : inside ≡ isWorkingExponent e) (some : inexact ≡ ltb 0 (2 * low + bitOf rest)) where
   bits : ltb 0 (F % 2 ^ (128 - n)) ≡ inexact
   bits = top-bits F n high low rest n1 word shifted dropped ∙ sym some
 
@@ -37,29 +37,8 @@ module _ (negative : Bool) (e : ℤ) (F n high low : ℕ) (rest inside inexact :
       rw (sym judged ∙ h, eq-eqb (F % 2 ^ (128 - n)) 0 (let l = ltb-false 0 (F % 2 ^ (128 - n)) (bits ∙ k) in omega arith))
       (ap given (upper-bits F n high low rest n1 word shifted dropped F1 negative e))
 
-sub-shift : tie.Need-sub-shift
-sub-shift c = search needs
-
-shift-right-requires : tie.Need-shift-right-requires
-shift-right-requires c κs = search needs
-
-is-inside-requires : tie.Need-is-inside-requires
-is-inside-requires c κs = search needs
-
-has-fraction-requires : tie.Need-has-fraction-requires
-has-fraction-requires c κs = search needs
-
 returns : tie.Need-returns
 returns c = outside _ _ _ _ _ (c .before .before .is-inside .ensures) (not-true _ (c .if1 .taken))
-
-cast-checked : tie.Need-cast-checked
-cast-checked c = search needs
-
-shl-checked : tie.Need-shl-checked
-shl-checked c = search needs
-
-checked-requires : tie.Need-checked-requires
-checked-requires c κs = search needs
 
 returns-2 : tie.Need-returns-2
 returns-2 c =
@@ -81,13 +60,13 @@ pub claim-top-spec : {M : Type 1} → statement M
 claim-top-spec =
     tie.close
     (tie.spec
-    sub-shift
-    shift-right-requires
-    is-inside-requires
-    has-fraction-requires
+    (λ c. search needs)
+    (λ c κs. search needs)
+    (λ c κs. search needs)
+    (λ c κs. search needs)
     returns
-    cast-checked
-    shl-checked
-    checked-requires
+    (λ c. search needs)
+    (λ c. search needs)
+    (λ c κs. search needs)
     returns-2
     returns-3)

@@ -1,4 +1,4 @@
--- `numbers::rounding::end_of` meets its contract: a word is even, so the last bit of the magnitude is that of its lower word.
+-- `numbers::rounding::end_of` meets its contract: 2^64 is even, so the last bit of the magnitude is that of its lower word.
 use mathlib.Core.Path.{_≡_}
 use mathlib.Core.Bool.{Bool, true, false}
 use Prim.Native.Nat.{ℕ, _+_, _*_, _/_}
@@ -20,17 +20,5 @@ clear : (rest : Bool) (high low : ℕ) → rest ≡ false → wide high low ≡ 
 unfolding endOf
 clear rest high low e = rw e
 
-mul-t6 : tie.Need-mul-t6
-mul-t6 c = search needs
-
-add-t7 : tie.Need-add-t7
-add-t7 c = search needs
-
-returns : tie.Need-returns
-returns c = set _ _ _ (c .before .if1 .taken)
-
-returns-2 : tie.Need-returns-2
-returns-2 c = clear _ _ _ (c .if1 .left)
-
 pub end-of-spec : {M : Type 1} → statement M
-end-of-spec = tie.close (tie.spec mul-t6 add-t7 returns returns-2)
+end-of-spec = tie.close (tie.spec (λ c. search needs) (λ c. search needs) (λ c. set _ _ _ (c .before .if1 .taken)) (λ c. clear _ _ _ (c .if1 .left)))

@@ -9,9 +9,9 @@ use borrow.Author.Needs.{needs}
 use borrow.Author.Tests.{le-leb, lt-leb}
 use lib.Dec.{leb}
 use lib.Ieee.{minus}
+use Rattle.numbers.specs.Biased.{raise, highestBiased}
 use Rattle.numbers.specs.Number.{isWorkingExponent}
 use Rattle.numbers.proofs.Laws.Bias.{too-low, too-high, working}
-use Rattle.numbers.specs.Magnitude.{raise}
 use Rattle.numbers.proofs.rounding.is_inside.Statement.{statement}
 use Rattle.numbers.proofs.rounding.is_inside.Tie as tie
 
@@ -19,28 +19,13 @@ below : (x z : ℕ) → x < z + 2147417986 → false ≡ isWorkingExponent (minu
 unfolding raise
 below x z h = sym (too-low (x + 127) (raise + z) (omega arith))
 
-above : (x z : ℕ) → z + 2147417986 ≤ x → leb (x - (z + 2147417986)) 131071 ≡ isWorkingExponent (minus (x + 127) (raise + z))
+above : (x z : ℕ) → z + 2147417986 ≤ x → leb (x - (z + 2147417986)) highestBiased ≡ isWorkingExponent (minus (x + 127) (raise + z))
 unfolding raise
-above x z h = go (decLe (x - (z + 2147417986)) 131071)
+above x z h = go (decLe (x - (z + 2147417986)) highestBiased)
   where
-    go : Dec (x - (z + 2147417986) ≤ 131071) → leb (x - (z + 2147417986)) 131071 ≡ isWorkingExponent (minus (x + 127) (raise + z))
-    go (yes l) = le-leb (x - (z + 2147417986)) 131071 l ∙ sym (working (x + 127) (raise + z) (omega arith) (omega arith))
-    go (no n) = let l = lt-of-not-le n in lt-leb (x - (z + 2147417986)) 131071 l ∙ sym (too-high (x + 127) (raise + z) (omega arith))
-
-add-if1 : tie.Need-add-if1
-add-if1 c = search needs
-
-returns : tie.Need-returns
-returns c = below _ _ (c .if1 .taken)
-
-add-result : tie.Need-add-result
-add-result c = search needs
-
-sub-result : tie.Need-sub-result
-sub-result c = search needs
-
-returns-2 : tie.Need-returns-2
-returns-2 c = above _ _ (c .if1 .left)
+    go : Dec (x - (z + 2147417986) ≤ highestBiased) → leb (x - (z + 2147417986)) highestBiased ≡ isWorkingExponent (minus (x + 127) (raise + z))
+    go (yes l) = le-leb (x - (z + 2147417986)) highestBiased l ∙ sym (working (x + 127) (raise + z) (omega arith) (omega arith))
+    go (no n) = let l = lt-of-not-le n in lt-leb (x - (z + 2147417986)) highestBiased l ∙ sym (too-high (x + 127) (raise + z) (omega arith))
 
 pub is-inside-spec : {M : Type 1} → statement M
-is-inside-spec = tie.close (tie.spec add-if1 returns add-result sub-result returns-2)
+is-inside-spec = tie.close (tie.spec (λ c. search needs) (λ c. below _ _ (c .if1 .taken)) (λ c. search needs) (λ c. search needs) (λ c. above _ _ (c .if1 .left)))

@@ -8,20 +8,20 @@ use lib.IntN.{ℤ, pos, negsuc, _+ℤ_}
 use mir.Facts.{toZ-ofZ}
 use mir.Syntax.{w32, w64}
 use mir.Val.{SFits, toZ, ofZ}
-use Rattle.numbers.specs.Magnitude.{raise}
-use Rattle.numbers.proofs.Laws.Bias.{minus-down, minus-up}
+use Rattle.numbers.specs.Biased.{raise}
+use Rattle.numbers.proofs.Laws.Minus.{minus-natural, minus-negative}
 use Rattle.numbers.proofs.rounding.raised.Statement.{statement}
 use Rattle.numbers.proofs.rounding.raised.Tie as tie
 
 sum-natural : (e : ℤ) → SFits w32 e → (b : ℕ) × (e +ℤ pos 2147483648 ≡ pos b) × (b < 2 ^ 32) × (e ≡ minus b raise)
 unfolding raise
-sum-natural (pos a) h = (a + 2147483648, refl, omega (arith, h .sfits), sym (minus-down (a + 2147483648) 2147483648 (omega arith) ∙ ap pos (omega arith)))
+sum-natural (pos a) h = (a + 2147483648, refl, omega (arith, h .sfits), sym (minus-natural (a + 2147483648) 2147483648 (omega arith) ∙ ap pos (omega arith)))
 sum-natural (negsuc a) h =
     let l : a < 2147483648 = h .sfits in (
       2147483647 - a,
       rw (le-ltb 2147483648 (suc a) (omega arith)) (ap pos (omega arith)),
       omega arith,
-      sym (minus-up (2147483647 - a) 2147483648 (omega arith) ∙ ap negsuc (omega arith)),
+      sym (minus-negative (2147483647 - a) 2147483648 (omega arith) ∙ ap negsuc (omega arith)),
     )
 
 wider : (e : ℤ) → SFits w32 e → SFits w64 e
@@ -40,12 +40,6 @@ module _ (e : ℤ) (fits : SFits w32 e) where
   cast-is : toZ w32 (ofZ w32 e) ≡ e
   cast-is = toZ-ofZ fits
 
-cast-result : tie.Need-cast-result
-cast-result c = rw (cast-is (c .args .exponent) (c .fits .exponent)) (wider (c .args .exponent) (c .fits .exponent))
-
-add-result : tie.Need-add-result
-add-result c = rw (cast-is (c .args .exponent) (c .fits .exponent)) (sum-fits (c .args .exponent) (c .fits .exponent))
-
 cast-result-2 : tie.Need-cast-result-2
 cast-result-2 c =
     let w = sum-natural (c .args .exponent) (c .fits .exponent) in
@@ -57,4 +51,4 @@ returns c =
     rw (cast-is (c .args .exponent) (c .fits .exponent), sum-is (c .args .exponent) (c .fits .exponent)) (w .3, w .2)
 
 pub raised-spec : {M : Type 1} → statement M
-raised-spec = tie.close (tie.spec cast-result add-result cast-result-2 returns)
+raised-spec = tie.close (tie.spec (λ c. rw (cast-is (c .args .exponent) (c .fits .exponent)) (wider (c .args .exponent) (c .fits .exponent))) (λ c. rw (cast-is (c .args .exponent) (c .fits .exponent)) (sum-fits (c .args .exponent) (c .fits .exponent))) cast-result-2 returns)

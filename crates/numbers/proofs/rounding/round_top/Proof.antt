@@ -11,21 +11,22 @@ use lib.Dec.{ltb}
 use lib.Ieee.{minus}
 use lib.IntN.{ℤ}
 use lib.Pow.{pow-lt, pow-pos}
+use Rattle.numbers.specs.Biased.{raise}
 use Rattle.numbers.specs.Answer.{checked}
-use Rattle.numbers.specs.Grid.{digit}
+use Rattle.numbers.specs.Grid.{bitOf}
 use Rattle.numbers.specs.Rounding.{goesUp, wholeOf}
+use Rattle.numbers.specs.Cell.{wide}
+use Rattle.numbers.specs.Magnitude.{roundedTop}
 use Rattle.numbers.specs.declared.number.Number.the-variants.{Finite}
 use Rattle.numbers.specs.declared.task.Mode.{Mode}
-use Rattle.numbers.proofs.Laws.Exponent.{suc-minus}
-use Rattle.numbers.specs.Cell.{wide}
-use Rattle.numbers.specs.Magnitude.{raise, roundedTop}
+use Rattle.numbers.proofs.Laws.Minus.{suc-minus}
 use Rattle.numbers.proofs.Laws.Top.{top-whole, high-small, significand-is, placed-same, placed-carry, placed-next}
 use Rattle.numbers.proofs.rounding.round_top.Statement.{statement}
 use Rattle.numbers.proofs.rounding.round_top.Tie as tie
 
 module _ (mode : Mode) (negative : Bool) (x z F n high low : ℕ) (rest up : Bool) (n0 : 1 ≤ n) (n1 : n ≤ 64) (F1 : F < 2 ^ 128) (word : low < 2 ^ 64)
     (shifted : wide high low ≡ F / 2 ^ (64 - n)) (dropped : rest ≡ ltb 0 (F % 2 ^ (64 - n)))
-    (decided : up ≡ goesUp mode negative high (2 * low + digit rest) (2 ^ 65)) where
+    (decided : up ≡ goesUp mode negative high (2 * low + bitOf rest) (2 ^ 65)) where
   abbrev e : ℤ
   e = minus (x + 127) (raise + z)
 
@@ -68,24 +69,6 @@ module _ (mode : Mode) (negative : Bool) (x z F n high low : ℕ) (rest up : Boo
       fits : (a b : ℕ) {s u : ℕ} → b ≤ (2 ^ 64 - 1) - a → a ≡ s → b ≡ u → 0 < u → s + u < 2 ^ 64
       fits a b l p q u0 = omega arith
 
-sub-shift : tie.Need-sub-shift
-sub-shift c = omega arith
-
-shift-right-requires : tie.Need-shift-right-requires
-shift-right-requires c κs = search needs
-
-cast-significand : tie.Need-cast-significand
-cast-significand c = search needs
-
-shl-significand : tie.Need-shl-significand
-shl-significand c = omega arith
-
-goes-up-requires : tie.Need-goes-up-requires
-goes-up-requires c κs = search needs
-
-checked-requires : tie.Need-checked-requires
-checked-requires c κs = search needs
-
 returns : tie.Need-returns
 returns c =
     let start = c .before .before .before .before .before .before in
@@ -93,27 +76,6 @@ returns c =
     c .checked .ensures
     ∙ (stays _ _ _ _ _ _ _ _ (known .before .shift-right .result .rest) _ (start .pre .3) (start .pre .4) (start .pre .2) (known .struct-known2 .given .1 .0 .fits) (known .before .shift-right .ensures .0) (known .before .shift-right .ensures .1)
     (c .before .before .goes-up .ensures) (not-true _ (c .before .if1 .taken)))
-
-cast-unit : tie.Need-cast-unit
-cast-unit c = search needs
-
-shl-unit : tie.Need-shl-unit
-shl-unit c = omega arith
-
-sub-if2 : tie.Need-sub-if2
-sub-if2 c = search needs
-
-add-checked : tie.Need-add-checked
-add-checked c = search needs
-
-checked-requires-2 : tie.Need-checked-requires-2
-checked-requires-2 c κs = search needs
-
-add-checked-2 : tie.Need-add-checked-2
-add-checked-2 c = search needs
-
-checked-requires-3 : tie.Need-checked-requires-3
-checked-requires-3 c κs = search needs
 
 returns-2 : tie.Need-returns-2
 returns-2 c =
@@ -135,19 +97,19 @@ pub round-top-spec : {M : Type 1} → statement M
 round-top-spec =
     tie.close
     (tie.spec
-    sub-shift
-    shift-right-requires
-    cast-significand
-    shl-significand
-    goes-up-requires
-    checked-requires
+    (λ c. omega arith)
+    (λ c κs. search needs)
+    (λ c. search needs)
+    (λ c. omega arith)
+    (λ c κs. search needs)
+    (λ c κs. search needs)
     returns
-    cast-unit
-    shl-unit
-    sub-if2
-    add-checked
-    checked-requires-2
-    add-checked-2
-    checked-requires-3
+    (λ c. search needs)
+    (λ c. omega arith)
+    (λ c. search needs)
+    (λ c. search needs)
+    (λ c κs. search needs)
+    (λ c. search needs)
+    (λ c κs. search needs)
     returns-2
     returns-3)

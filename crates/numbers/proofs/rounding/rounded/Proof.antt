@@ -7,8 +7,12 @@ use native.Mathlib.Nat.{zero-mul}
 use native.Mathlib.Omega.{arith}
 use borrow.Author.Needs.{needs}
 use lib.Ieee.{minus}
+use Rattle.numbers.specs.Biased.{raise}
 use Rattle.numbers.specs.Rounding.{precisionOf}
 use Rattle.numbers.specs.Answer.{outcome, checked, rounded}
+use Rattle.numbers.specs.Cell.{wide}
+use Rattle.numbers.specs.Magnitude.{roundedTop, claimedTop}
+use Rattle.numbers.specs.Fraction.{scaled}
 use Rattle.numbers.specs.declared.answer.Answer.the-variants.{Given}
 use Rattle.numbers.specs.declared.number.Number.the-variants.{Zero}
 use Rattle.numbers.specs.declared.task.Claim.{Claim}
@@ -18,16 +22,14 @@ use Rattle.numbers.specs.declared.task.Task.{Task}
 use Rattle.numbers.specs.declared.task.Task.the-variants.{Round, Exact}
 use Rattle.numbers.proofs.Laws.Signs.{abs-signed}
 use Rattle.numbers.proofs.Laws.Value.{rounded-zero}
-use Rattle.numbers.specs.Cell.{wide}
-use Rattle.numbers.specs.Magnitude.{raise, scaledValue, roundedTop, claimedTop}
 use Rattle.numbers.proofs.Laws.Top.{round-top, claim-top}
 use Rattle.numbers.proofs.rounding.rounded.Statement.{statement}
 use Rattle.numbers.proofs.rounding.rounded.Tie as tie
 
 -- no bit is set
-nothing : (task : Task) (negative : Bool) (high low x : ℕ) → high ≡ 0 → low ≡ 0 → outcome (Given Zero) ≡ rounded task (scaledValue negative (wide high low) x raise)
-unfolding outcome wide scaledValue
-nothing task negative high low x h l = rw (h, l) (sym (rounded-zero task (scaledValue negative 0 x raise) (abs-signed negative (0 * 2 ^ x) ∙ zero-mul (2 ^ x))))
+nothing : (task : Task) (negative : Bool) (high low x : ℕ) → high ≡ 0 → low ≡ 0 → outcome (Given Zero) ≡ rounded task (scaled negative (wide high low) x raise)
+unfolding outcome wide
+nothing task negative high low x h l = rw (h, l) (sym (rounded-zero task (scaled negative 0 x raise) (abs-signed negative (0 * 2 ^ x) ∙ zero-mul (2 ^ x))))
 
 -- a bit is set
 low-set : (high low : ℕ) → (low ≡ 0 → ⊥) → 0 < wide high low
@@ -49,43 +51,26 @@ module _ (task : Task) (n0 : 1 ≤ precisionOf task) (n1 : precisionOf task ≤ 
 
   -- what is done at the top bit is done to the value
   module _ (negative : Bool) (F x z G : ℕ) (low : 2 ^ 127 ≤ F * 2 ^ z) (high : F * 2 ^ z < 2 ^ 128) (shifted : G ≡ F * 2 ^ z) where
-    round-value : (r : Rounding) → task ≡ Round r → roundedTop (r .mode) negative (minus (x + 127) (raise + z)) (r .precision) G ≡ rounded task (scaledValue negative F x raise)
-    unfolding roundedTop rounded precisionOf
+    round-value : (r : Rounding) → task ≡ Round r → roundedTop (r .mode) negative (minus (x + 127) (raise + z)) (r .precision) G ≡ rounded task (scaled negative F x raise)
+    unfolding roundedTop rounded
     round-value r e =
         let p = precision (Round r) e in
         rw (e, shifted) (ap checked (sym (round-top negative F x z raise (r .precision) (p .0) (p .1) low high (r .mode))))
 
-    claim-value : (r : Claim) → task ≡ Exact r → claimedTop negative (minus (x + 127) (raise + z)) (r .precision) G ≡ rounded task (scaledValue negative F x raise)
-    unfolding claimedTop rounded precisionOf
+    claim-value : (r : Claim) → task ≡ Exact r → claimedTop negative (minus (x + 127) (raise + z)) (r .precision) G ≡ rounded task (scaled negative F x raise)
+    unfolding claimedTop rounded
     claim-value r e =
         let p = precision (Exact r) e in
         rw (e, shifted) (sym (claim-top negative F x z raise (r .precision) (p .0) (p .1) low high ∙ rw (round-top negative F x z raise (r .precision) (p .0) (p .1) low high Trunc)))
 
-returns : tie.Need-returns
-returns c = nothing _ _ _ _ _ (c .before .before .if1 .taken) (c .if2 .taken)
-
-leading-zeros-requires : tie.Need-leading-zeros-requires
-leading-zeros-requires c κs = ⊎-elim (λ w. low-set _ _ (w .2 .left)) (λ w. high-set _ _ (w .left)) (c .if1 .came)
-
-shift-left-requires : tie.Need-shift-left-requires
-shift-left-requires c κs = search needs
-
-enum-known-task : tie.Need-enum-known-task
-enum-known-task c = search needs
-
 round-top-requires : tie.Need-round-top-requires
-unfolding precisionOf
 round-top-requires c κs =
     let start = c .before .before .before .before .before .before .before in
     let zeros = c .before .before .before .before .leading-zeros in
     let n = precision _ (start .pre .1) (start .pre .2) _ (c .before .task .given .1) in
     (start .pre .0, zeros .ensures .0, still _ _ _ (c .before .before .before .shift-left .ensures) (zeros .ensures .2), n .0, n .1)
 
-enum-known-task-2 : tie.Need-enum-known-task-2
-enum-known-task-2 c = search needs
-
 claim-top-requires : tie.Need-claim-top-requires
-unfolding precisionOf
 claim-top-requires c κs =
     let start = c .before .before .before .before .before .before .before in
     let zeros = c .before .before .before .before .leading-zeros in
@@ -110,12 +95,12 @@ pub rounded-spec : {M : Type 1} → statement M
 rounded-spec =
     tie.close
     (tie.spec
-    returns
-    leading-zeros-requires
-    shift-left-requires
-    enum-known-task
+    (λ c. nothing _ _ _ _ _ (c .before .before .if1 .taken) (c .if2 .taken))
+    (λ c κs. ⊎-elim (λ w. low-set _ _ (w .2 .left)) (λ w. high-set _ _ (w .left)) (c .if1 .came))
+    (λ c κs. search needs)
+    (λ c. search needs)
     round-top-requires
-    enum-known-task-2
+    (λ c. search needs)
     claim-top-requires
     returns-2
     returns-3)

@@ -8,26 +8,18 @@ use lib.IntN.{ℤ, pos, _-ℤ_}
 use mir.Facts.{toZ-ofZ, toZ-pos}
 use mir.Syntax.{w32}
 use mir.Val.{SFits, toZ}
-use Rattle.numbers.proofs.Laws.Bias.{pos-minus}
-use Rattle.numbers.proofs.Laws.Signed.{minus-fits}
+use Rattle.numbers.specs.Biased.{bias, highestBiased}
+use Rattle.numbers.proofs.Laws.Minus.{pos-minus}
+use Rattle.numbers.proofs.Laws.SignedWords.{minus-fits}
 use Rattle.numbers.proofs.rounding.unbiased.Statement.{statement}
 use Rattle.numbers.proofs.rounding.unbiased.Tie as tie
 
-cast-result : tie.Need-cast-result
-cast-result c = search needs
+module _ (b : ℕ) (h : b ≤ highestBiased) where
+  difference-is : toZ w32 b -ℤ pos bias ≡ minus b bias
+  difference-is = ap (λ (z : ℤ). z -ℤ pos bias) (toZ-pos w32 {n = b} (omega arith)) ∙ pos-minus b bias
 
-module _ (b : ℕ) (h : b ≤ 131071) where
-  difference-is : toZ w32 b -ℤ pos 65535 ≡ minus b 65535
-  difference-is = ap (λ (z : ℤ). z -ℤ pos 65535) (toZ-pos w32 {n = b} (omega arith)) ∙ pos-minus b 65535
-
-  difference-fits : SFits w32 (toZ w32 b -ℤ pos 65535)
-  difference-fits = rw difference-is (minus-fits b 65535 (omega arith) (omega arith))
-
-sub-result : tie.Need-sub-result
-sub-result c = difference-fits (c .args .b) (c .pre)
-
-returns : tie.Need-returns
-returns c = toZ-ofZ (difference-fits (c .args .b) (c .pre)) ∙ difference-is (c .args .b) (c .pre)
+  difference-fits : SFits w32 (toZ w32 b -ℤ pos bias)
+  difference-fits = rw difference-is (minus-fits b bias (omega arith) (omega arith))
 
 pub unbiased-spec : {M : Type 1} → statement M
-unbiased-spec = tie.close (tie.spec cast-result sub-result returns)
+unbiased-spec = tie.close (tie.spec (λ c. search needs) (λ c. difference-fits (c .args .b) (c .pre)) (λ c. toZ-ofZ (difference-fits (c .args .b) (c .pre)) ∙ difference-is (c .args .b) (c .pre)))

@@ -3,14 +3,11 @@ use Prim.Native.Nat.{_+_}
 use native.Mathlib.Nat.{pos-of-ne-zero}
 use native.Mathlib.Omega.{arith}
 use lib.Count.{leading-le, leading-top}
-use Rattle.numbers.proofs.Laws.Words.{raised, top}
 use Rattle.numbers.specs.Cell.{wide}
+use Rattle.numbers.proofs.Laws.Words.{raised, top}
 use Rattle.numbers.proofs.Laws.Wide.{wide-low}
 use Rattle.numbers.proofs.words.leading_zeros.Statement.{statement}
 use Rattle.numbers.proofs.words.leading_zeros.Tie as tie
-
-add-result : tie.Need-add-result
-add-result c = omega (arith, leading-le 64 (c .before .before .before .args .a .low))
 
 returns : tie.Need-returns
 returns c =
@@ -26,4 +23,4 @@ returns-2 c =
     raised 127 (first .0 + 64) _ _ (omega arith) (whole .0) (whole .1)
 
 pub leading-zeros-spec : {M : Type 1} → statement M
-leading-zeros-spec = tie.close (tie.spec add-result returns returns-2)
+leading-zeros-spec = tie.close (tie.spec (λ c. omega (arith, leading-le 64 (c .before .before .before .args .a .low))) returns returns-2)

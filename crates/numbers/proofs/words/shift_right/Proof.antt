@@ -2,28 +2,10 @@
 use borrow.Author.Needs.{needs}
 use native.Mathlib.Nat.{le-of-lt}
 use mir.Facts.{fits-of-lt}
-use Rattle.numbers.proofs.Laws.Words.{uncut, powers, swapped, right, right-word}
 use Rattle.numbers.specs.Cell.{wide}
+use Rattle.numbers.proofs.Laws.Words.{uncut, powers, swapped, right, right-word}
 use Rattle.numbers.proofs.words.shift_right.Statement.{statement}
 use Rattle.numbers.proofs.words.shift_right.Tie as tie
-
-returns : tie.Need-returns
-returns c = uncut _ _ (c .if1 .taken)
-
-cut-requires : tie.Need-cut-requires
-cut-requires c κs = search needs
-
-shr-t7 : tie.Need-shr-t7
-shr-t7 c = search needs
-
-sub-t8 : tie.Need-sub-t8
-sub-t8 c = search needs
-
-cast-t9 : tie.Need-cast-t9
-cast-t9 c = search needs
-
-shl-t10 : tie.Need-shl-t10
-shl-t10 c = search needs
 
 add-t11 : tie.Need-add-t11
 unfolding wide
@@ -34,9 +16,6 @@ unfolding wide
 returns-2 c =
     let all = right (swapped (powers _ 64 (le-of-lt (c .before .before .before .before .if2 .taken)))) _ _ (c .before .struct-known2 .given .1 .0 .fits) in
     rw (c .before .before .before .cut .ensures .0, c .before .before .before .cut .ensures .1) (all .0, all .2)
-
-cut-requires-2 : tie.Need-cut-requires-2
-cut-requires-2 c κs = search needs
 
 returns-3 : tie.Need-returns-3
 unfolding wide
@@ -54,14 +33,14 @@ pub shift-right-spec : {M : Type 1} → statement M
 shift-right-spec =
     tie.close
     (tie.spec
-    returns
-    cut-requires
-    shr-t7
-    sub-t8
-    cast-t9
-    shl-t10
+    (λ c. uncut _ _ (c .if1 .taken))
+    (λ c κs. search needs)
+    (λ c. search needs)
+    (λ c. search needs)
+    (λ c. search needs)
+    (λ c. search needs)
     add-t11
     returns-2
-    cut-requires-2
+    (λ c κs. search needs)
     returns-3
     returns-4)

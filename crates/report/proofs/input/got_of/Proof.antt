@@ -15,12 +15,6 @@ use Rattle.report.proofs.input.got_of.Tie as tie
 as-read : {z : ℤ} {t : Bool} → SFits w64 z → ltZ (toZ w64 (ofZ w64 z)) (pos 0) ≡ t → ltZ z (pos 0) ≡ t
 as-read f e = rw (toZ-ofZ f) at e
 
-returns : tie.Need-returns
-returns c = negative _ _ (as-read (c .before .before .fits .answer) (c .if1 .taken))
-
-count-requires : tie.Need-count-requires
-count-requires c κs = search needs
-
 returns-2 : tie.Need-returns-2
 returns-2 c =
     let f = c .before .before .before .before .fits .answer in
@@ -32,4 +26,4 @@ returns-3 c =
     some-came _ (c .if2 .left) ∙ counted _ _ _ (as-read f (c .before .before .if1 .left)) (rw (toZ-ofZ f) at (c .before .count .ensures .1))
 
 pub got-of-spec : {M : Type 1} → statement M
-got-of-spec = tie.close (tie.spec returns count-requires returns-2 returns-3)
+got-of-spec = tie.close (tie.spec (λ c. negative _ _ (as-read (c .before .before .fits .answer) (c .if1 .taken))) (λ c κs. search needs) returns-2 returns-3)

@@ -45,64 +45,6 @@ size-is count size whole h e =
     let start = count + size - size in
     omega (arith, sym (length-take (count + size - start) (drop start whole)) ∙ e, length-drop start whole)
 
-loop-holds : tie.Need-loop-holds Inv-loop μ-loop
-loop-holds c = (omega arith, refl, λ (e : false ≡ false). omega arith)
-
-sub-loop : tie.Need-sub-loop Inv-loop μ-loop
-sub-loop c = search needs
-
-add-read : tie.Need-add-read Inv-loop μ-loop
-add-read c = search needs
-
-sub-read : tie.Need-sub-read Inv-loop μ-loop
-sub-read c = search needs
-
-part-read-start : tie.Need-part-read-start Inv-loop μ-loop
-part-read-start c = search needs
-
-part-read-end : tie.Need-part-read-end Inv-loop μ-loop
-part-read-end c = search needs
-
-read-requires : tie.Need-read-requires Inv-loop μ-loop
-read-requires c κs = search needs
-
-enum-known-size : tie.Need-enum-known-size Inv-loop μ-loop
-enum-known-size c = search needs
-
-enum-told : tie.Need-enum-told Inv-loop μ-loop
-enum-told c = search needs
-
-same-length : tie.Need-same-length Inv-loop μ-loop
-same-length c = search needs
-
-returns : tie.Need-returns Inv-loop μ-loop
-unfolding bytesRead
-returns c = search needs
-
-add-count : tie.Need-add-count Inv-loop μ-loop
-add-count c = let end = end-of (c .before) in search needs
-
-sub-block : tie.Need-sub-block Inv-loop μ-loop
-sub-block c = omega arith
-
-sub-block-2 : tie.Need-sub-block-2 Inv-loop μ-loop
-sub-block-2 c = omega arith
-
-part-block-start : tie.Need-part-block-start Inv-loop μ-loop
-part-block-start c = let end = end-of (c .before .before) in search needs
-
-part-block-end : tie.Need-part-block-end Inv-loop μ-loop
-part-block-end c = let end = end-of (c .before .before) in search needs
-
-judge-requires : tie.Need-judge-requires Inv-loop μ-loop
-judge-requires c κs = search needs
-
-enum-told-2 : tie.Need-enum-told-2 Inv-loop μ-loop
-enum-told-2 c = search needs
-
-count-of-requires : tie.Need-count-of-requires Inv-loop μ-loop
-count-of-requires c κs = search needs
-
 add-due : tie.Need-add-due Inv-loop μ-loop
 add-due c =
     let judged = c .before .before .before in
@@ -114,9 +56,6 @@ sub-record-at : tie.Need-sub-record-at Inv-loop μ-loop
 sub-record-at c =
     let judged = c .before .before .before in
     rw (c .count-of .ensures) (lawful-count _ _ _ _ _ (judged .judge .ensures) (c .before .enum-told2 .given .1))
-
-record-at-requires : tie.Need-record-at-requires Inv-loop μ-loop
-record-at-requires c κs = search needs
 
 loop-less : tie.Need-loop-less Inv-loop μ-loop
 loop-less c =
@@ -139,16 +78,6 @@ loop-again c =
       λ e. still-room _ _ _ _ _ (judged .judge .ensures) (c .before .before .enum-told2 .given .1) (loop .loop .inv .2) (ap (λ (n : ℕ). ltb n 20) (sym (c .before .count-of .ensures)) ∙ e),
     )
 
-same-length-2 : tie.Need-same-length-2 Inv-loop μ-loop
-same-length-2 c = search needs
-
-returns-2 : tie.Need-returns-2 Inv-loop μ-loop
-unfolding bytesRead
-returns-2 c = counts _ _ (search needs)
-
-same-length-3 : tie.Need-same-length-3 Inv-loop μ-loop
-same-length-3 c = search needs
-
 returns-3 : tie.Need-returns-3 Inv-loop μ-loop
 unfolding bytesRead
 returns-3 c =
@@ -156,36 +85,37 @@ returns-3 c =
     counts _ _ (omega (arith, end-of read, read .before .before .before .buffer .given .1))
 
 pub read-blocks-spec : {M : Type 1} → statement M
+unfolding bytesRead
 read-blocks-spec =
     tie.close
     (tie.spec
     Inv-loop
     μ-loop
-    loop-holds
-    sub-loop
-    add-read
-    sub-read
-    part-read-start
-    part-read-end
-    read-requires
-    enum-known-size
-    enum-told
-    same-length
-    returns
-    add-count
-    sub-block
-    sub-block-2
-    part-block-start
-    part-block-end
-    judge-requires
-    enum-told-2
-    count-of-requires
+    (λ c. (omega arith, refl, λ (e : false ≡ false). omega arith))
+    (λ c. search needs)
+    (λ c. search needs)
+    (λ c. search needs)
+    (λ c. search needs)
+    (λ c. search needs)
+    (λ c κs. search needs)
+    (λ c. search needs)
+    (λ c. search needs)
+    (λ c. search needs)
+    (λ c. search needs)
+    (λ c. let end = end-of (c .before) in search needs)
+    (λ c. omega arith)
+    (λ c. omega arith)
+    (λ c. let end = end-of (c .before .before) in search needs)
+    (λ c. let end = end-of (c .before .before) in search needs)
+    (λ c κs. search needs)
+    (λ c. search needs)
+    (λ c κs. search needs)
     add-due
     sub-record-at
-    record-at-requires
+    (λ c κs. search needs)
     loop-less
     loop-again
-    same-length-2
-    returns-2
-    same-length-3
+    (λ c. search needs)
+    (λ c. counts _ _ (search needs))
+    (λ c. search needs)
     returns-3)

@@ -20,7 +20,7 @@ abbrev μ-loop : tie.MeasureT-loop
 μ-loop input depot₀ from₀ depot from = length input - from
 
 begun : (s : Depot) (input : List ℕ) → s ≡ fresh → reportFrom s (s .blocks) (piecesOf (drop 0 input)) ≡ reportOf input
-unfolding reportOf fresh
+unfolding reportOf
 begun s input is = rw is
 
 -- how far a piece leads
@@ -31,45 +31,6 @@ passed from n size h e = (omega arith, omega arith)
 at-end : (s : Depot) (input : List ℕ) (from : ℕ) → length input ≤ from → closingText s ≡ reportFrom s (s .blocks) (piecesOf (drop from input))
 unfolding reportFrom
 at-end s input from h = rw (no-piece (drop from input) (length-drop from input ∙ omega arith))
-
-fresh-requires : tie.Need-fresh-requires Inv-loop μ-loop
-fresh-requires c κs = search needs
-
-loop-holds : tie.Need-loop-holds Inv-loop μ-loop
-loop-holds c = (omega arith, begun _ _ (c .fresh .ensures))
-
-sub-piece-length : tie.Need-sub-piece-length Inv-loop μ-loop
-sub-piece-length c = search needs
-
-piece-length-requires : tie.Need-piece-length-requires Inv-loop μ-loop
-piece-length-requires c κs = search needs
-
-add-to : tie.Need-add-to Inv-loop μ-loop
-add-to c = let step = passed _ _ _ (c .before .loop-test .taken) (c .piece-length .ensures) in search needs
-
-sub-load : tie.Need-sub-load Inv-loop μ-loop
-sub-load c = omega arith
-
-part-load-start : tie.Need-part-load-start Inv-loop μ-loop
-part-load-start c = search needs
-
-part-load-end : tie.Need-part-load-end Inv-loop μ-loop
-part-load-end c = let step = passed _ _ _ (c .before .loop-test .taken) (c .piece-length .ensures) in search needs
-
-load-requires : tie.Need-load-requires Inv-loop μ-loop
-load-requires c κs = search needs
-
-verdict-of-requires : tie.Need-verdict-of-requires Inv-loop μ-loop
-verdict-of-requires c κs = search needs
-
-enum-told : tie.Need-enum-told Inv-loop μ-loop
-enum-told c = search needs
-
-enum-known-row : tie.Need-enum-known-row Inv-loop μ-loop
-enum-known-row c = search needs
-
-refused-block-requires : tie.Need-refused-block-requires Inv-loop μ-loop
-refused-block-requires c κs = search needs
 
 returns : tie.Need-returns Inv-loop μ-loop
 returns c =
@@ -90,33 +51,27 @@ loop-again c =
           ∙ loop .loop .inv .1,
     )
 
-closing-requires : tie.Need-closing-requires Inv-loop μ-loop
-closing-requires c κs = search needs
-
-returns-2 : tie.Need-returns-2 Inv-loop μ-loop
-returns-2 c = c .closing .ensures ∙ at-end _ _ _ (c .before .loop-test .left) ∙ c .before .before .loop .inv .1
-
 pub report-of-spec : {M : Type 1} → statement M
 report-of-spec =
     tie.close
     (tie.spec
     Inv-loop
     μ-loop
-    fresh-requires
-    loop-holds
-    sub-piece-length
-    piece-length-requires
-    add-to
-    sub-load
-    part-load-start
-    part-load-end
-    load-requires
-    verdict-of-requires
-    enum-told
-    enum-known-row
-    refused-block-requires
+    (λ c κs. search needs)
+    (λ c. (omega arith, begun _ _ (c .fresh .ensures)))
+    (λ c. search needs)
+    (λ c κs. search needs)
+    (λ c. let step = passed _ _ _ (c .before .loop-test .taken) (c .piece-length .ensures) in search needs)
+    (λ c. omega arith)
+    (λ c. search needs)
+    (λ c. let step = passed _ _ _ (c .before .loop-test .taken) (c .piece-length .ensures) in search needs)
+    (λ c κs. search needs)
+    (λ c κs. search needs)
+    (λ c. search needs)
+    (λ c. search needs)
+    (λ c κs. search needs)
     returns
     loop-less
     loop-again
-    closing-requires
-    returns-2)
+    (λ c κs. search needs)
+    (λ c. c .closing .ensures ∙ at-end _ _ _ (c .before .loop-test .left) ∙ c .before .before .loop .inv .1))

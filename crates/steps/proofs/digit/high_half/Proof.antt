@@ -2,19 +2,14 @@
 use mathlib.Core.Path.{sym, _∙_}
 use borrow.Author.Needs.{needs}
 use Rattle.numbers.specs.Answer.{outcome}
-use Rattle.numbers.specs.Rounding.{precisionOf}
 use Rattle.steps.proofs.Laws.Run.{operand-result}
-use Rattle.steps.proofs.Lines.{line-7}
+use Rattle.steps.proofs.TableLines.{line-7}
 use Rattle.steps.proofs.digit.high_half.Statement.{statement}
 use Rattle.steps.proofs.digit.high_half.Tie as tie
-
-rounded-requires : tie.Need-rounded-requires
-unfolding precisionOf
-rounded-requires c κs = search (operand-result _ (c .pre), needs)
 
 returns : tie.Need-returns
 unfolding outcome
 returns c = (λ p task. c .rounded .ensures .0 ∙ sym (line-7 p _ task), c .rounded .ensures .1)
 
 pub high-half-spec : {M : Type 1} → statement M
-high-half-spec = tie.close (tie.spec rounded-requires returns)
+high-half-spec = tie.close (tie.spec (λ c κs. search (operand-result _ (c .pre), needs)) returns)

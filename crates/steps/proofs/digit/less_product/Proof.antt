@@ -1,21 +1,12 @@
 -- `steps::digit::less_product` meets its contract: the product and the difference, both exact in 64 bits.
 use borrow.Author.Needs.{needs}
-use Rattle.numbers.specs.Rounding.{precisionOf}
 use Rattle.steps.specs.Run.{lessOf}
 use Rattle.steps.proofs.digit.less_product.Statement.{statement}
 use Rattle.steps.proofs.digit.less_product.Tie as tie
-
-combined-requires : tie.Need-combined-requires
-unfolding precisionOf
-combined-requires c κs = search needs
-
-combined-requires-2 : tie.Need-combined-requires-2
-unfolding precisionOf
-combined-requires-2 c κs = search needs
 
 returns : tie.Need-returns
 unfolding lessOf
 returns c = (rw (c .before .combined .ensures .0) at (c .combined2 .ensures .0), c .combined2 .ensures .1)
 
 pub less-product-spec : {M : Type 1} → statement M
-less-product-spec = tie.close (tie.spec combined-requires combined-requires-2 returns)
+less-product-spec = tie.close (tie.spec (λ c κs. search needs) (λ c κs. search needs) returns)

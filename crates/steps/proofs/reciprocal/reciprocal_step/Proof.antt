@@ -6,7 +6,7 @@ use lib.Dec.{lit≤}
 use borrow.Author.Needs.{needs}
 use Rattle.numbers.specs.Answer.{Outcome, outcome}
 use Rattle.numbers.specs.Fraction.{Fraction, product}
-use Rattle.numbers.specs.Rounding.{byMode, claim, precisionOf}
+use Rattle.numbers.specs.Rounding.{byMode, claim}
 use Rattle.numbers.specs.declared.number.Number.{Number}
 use Rattle.numbers.specs.declared.number.Number.the-variants.{Zero}
 use Rattle.numbers.specs.declared.task.Mode.the-variants.{Trunc, Away}
@@ -14,7 +14,7 @@ use Rattle.numbers.specs.declared.task.Task.{Task}
 use Rattle.steps.specs.Steps.{refined, lineOfBoth, afterStep}
 use Rattle.steps.proofs.Laws.Run.{operand-result}
 use Rattle.steps.proofs.Laws.Worked.{has-complements}
-use Rattle.steps.proofs.Lines.{line-1, line-2, line-3, line-4, line-5, line-6}
+use Rattle.steps.proofs.TableLines.{line-1, line-2, line-3, line-4, line-5, line-6}
 use Rattle.steps.proofs.reciprocal.reciprocal_step.Statement.{statement}
 use Rattle.steps.proofs.reciprocal.reciprocal_step.Tie as tie
 
@@ -60,46 +60,16 @@ sixth c =
     let t = c .before .before in
     is-line (byMode Trunc 32) refined _ 4 5 6 _ _ _ (λ p task. line-6 p _ task) (fourth (t .before .before)) (fifth t) (c .refined2 .ensures .0)
 
-seed-requires : tie.Need-seed-requires
-seed-requires c κs = search needs
-
-returns : tie.Need-returns
-returns c = (λ p task. rw (c .before .if1 .taken) (c .seed .ensures .0 ∙ sym (line-1 p _ task)), c .seed .ensures .1)
-
-rounded-requires : tie.Need-rounded-requires
-unfolding precisionOf
-rounded-requires c κs = (operand-result _ (c .before .pre .0), (lit≤ tt, lit≤ tt))
-
-returns-2 : tie.Need-returns-2
-returns-2 c = (λ p task. rw (c .if2 .taken) (second (c .before) p task), c .before .rounded .ensures .1)
-
-seed-requires-2 : tie.Need-seed-requires-2
-seed-requires-2 c κs = search needs
-
-combined-requires : tie.Need-combined-requires
-unfolding precisionOf
-combined-requires c κs = (c .seed2 .ensures .1, c .before .before .rounded .ensures .1, (lit≤ tt, lit≤ tt))
-
-returns-3 : tie.Need-returns-3
-returns-3 c = (λ p task. rw (c .if3 .taken) (third (c .before) p task), c .before .combined .ensures .1)
-
 refined-requires : tie.Need-refined-requires
 refined-requires c κs =
     let t = c .before in
     let pre = started (t .before) .pre in
     (t .before .seed2 .ensures .1, t .combined .ensures .1, rw (third t Zero (claim 1)) (has-complements Zero _ (claim 1) (pre .0) (pre .1) .0))
 
-returns-4 : tie.Need-returns-4
-returns-4 c = (λ p task. rw (c .if4 .taken) (fourth (c .before) p task), c .before .refined .ensures .1)
-
 combined-requires-2 : tie.Need-combined-requires-2
-unfolding precisionOf
 combined-requires-2 c κs =
     let s = c .before in
     (s .refined .ensures .1, s .before .before .before .before .before .rounded .ensures .1, (lit≤ tt, lit≤ tt))
-
-returns-5 : tie.Need-returns-5
-returns-5 c = (λ p task. rw (c .if5 .taken) (fifth (c .before) p task), c .before .combined2 .ensures .1)
 
 refined-requires-2 : tie.Need-refined-requires-2
 refined-requires-2 c κs =
@@ -117,16 +87,16 @@ pub reciprocal-step-spec : {M : Type 1} → statement M
 reciprocal-step-spec =
     tie.close
     (tie.spec
-    seed-requires
-    returns
-    rounded-requires
-    returns-2
-    seed-requires-2
-    combined-requires
-    returns-3
+    (λ c κs. search needs)
+    (λ c. (λ p task. rw (c .before .if1 .taken) (c .seed .ensures .0 ∙ sym (line-1 p _ task)), c .seed .ensures .1))
+    (λ c κs. (operand-result _ (c .before .pre .0), (lit≤ tt, lit≤ tt)))
+    (λ c. (λ p task. rw (c .if2 .taken) (second (c .before) p task), c .before .rounded .ensures .1))
+    (λ c κs. search needs)
+    (λ c κs. (c .seed2 .ensures .1, c .before .before .rounded .ensures .1, (lit≤ tt, lit≤ tt)))
+    (λ c. (λ p task. rw (c .if3 .taken) (third (c .before) p task), c .before .combined .ensures .1))
     refined-requires
-    returns-4
+    (λ c. (λ p task. rw (c .if4 .taken) (fourth (c .before) p task), c .before .refined .ensures .1))
     combined-requires-2
-    returns-5
+    (λ c. (λ p task. rw (c .if5 .taken) (fifth (c .before) p task), c .before .combined2 .ensures .1))
     refined-requires-2
     returns-6)

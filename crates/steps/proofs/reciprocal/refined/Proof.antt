@@ -6,13 +6,13 @@ use lib.Dec.{lit≤}
 use lib.IntN.{pos}
 use Rattle.numbers.specs.Answer.{Outcome, given, refused, outcome, rounded}
 use Rattle.numbers.specs.Fraction.{Equal, value, signed, difference, product}
-use Rattle.numbers.specs.Number.{isBetween, isSignificand, isWorkingExponent, isFit, isWorking}
+use Rattle.numbers.specs.Number.{isBetween, isSignificand, isWorkingExponent, isFit}
 use Rattle.numbers.specs.Rounding.{claim, precisionOf}
 use Rattle.numbers.specs.declared.number.Number.{Number}
 use Rattle.numbers.specs.declared.number.Number.the-variants.{Finite}
 use Rattle.numbers.specs.declared.task.Task.{Task}
+use Rattle.numbers.proofs.Laws.Scaled.{value-fraction}
 use Rattle.numbers.proofs.Laws.Fractions.{difference-fraction, difference-equal, product-fraction, product-equal}
-use Rattle.numbers.proofs.Laws.Rounded.{value-fraction}
 use Rattle.numbers.proofs.Laws.Value.{same-outcome}
 use Rattle.steps.specs.Run.{IsResult, HasComplement}
 use Rattle.steps.specs.Steps.{complement, refined, lineOfBoth}
@@ -30,7 +30,7 @@ made-is = refl
 
 -- less t it is c(t)
 made-less : (t : Number) → rounded (claim 64) (difference (value made) (value t)) ≡ rounded (claim 64) (complement (value t))
-unfolding complement Equal precisionOf
+unfolding complement Equal
 made-less t =
     same-outcome (claim 64) (difference (value made) (value t)) (complement (value t)) (difference-fraction (value made) (value t) (value-fraction made) (value-fraction t))
     (complement-fraction (value t) (value-fraction t)) (lit≤ tt) (difference-equal (value made) (value t) twoLess (value t) made-is refl)
@@ -49,21 +49,17 @@ refined-line task (given x) (given t) c r n0 has e f =
     f
     ∙ ap (lineOfBoth task product (given x)) (e ∙ made-less t ∙ has .1)
     ∙ same-outcome task (product (value x) y) (refined (value x) (value t)) (product-fraction (value x) y x0 y0) (refined-fraction (value x) (value t) x0 t0) n0
-    (product-equal (value x) y (value x) (complement (value t)) x0 y0 x0 (complement-fraction (value t) t0) refl (has .2))
+    (product-equal (value x) y (value x) (complement (value t)) refl (has .2))
 
 combined-requires : tie.Need-combined-requires
-unfolding outcome precisionOf IsResult isWorking isFit isSignificand isWorkingExponent isBetween
+unfolding outcome IsResult isFit isSignificand isWorkingExponent isBetween
 combined-requires c κs = (refl, c .pre .1, (lit≤ tt, lit≤ tt))
 
-combined-requires-2 : tie.Need-combined-requires-2
-unfolding precisionOf
-combined-requires-2 c κs = (c .before .pre .0, c .combined .ensures .1, (lit≤ tt, lit≤ tt))
-
 returns : tie.Need-returns
-unfolding outcome made precisionOf
+unfolding outcome made
 returns c =
     let start = c .before .before in
     (refined-line _ _ _ _ _ (lit≤ tt) (start .pre .2) (c .before .combined .ensures .0) (c .combined2 .ensures .0), c .combined2 .ensures .1)
 
 pub refined-spec : {M : Type 1} → statement M
-refined-spec = tie.close (tie.spec combined-requires combined-requires-2 returns)
+refined-spec = tie.close (tie.spec combined-requires (λ c κs. (c .before .pre .0, c .combined .ensures .1, (lit≤ tt, lit≤ tt))) returns)

@@ -10,25 +10,26 @@ use mir.Facts.{toZ-ofZ}
 use mir.Syntax.{w32}
 use mir.Val.{SFits, toZ, ofZ}
 use borrow.Author.Needs.{needs}
+use Rattle.numbers.specs.Biased.{bias}
 use Rattle.numbers.specs.Answer.{outcome, given, rounded}
 use Rattle.numbers.specs.Number.{isAdmissible}
 use Rattle.numbers.specs.Rounding.{claim}
 use Rattle.numbers.specs.declared.answer.Answer.the-variants.{Given}
 use Rattle.numbers.specs.declared.number.Number.{Number}
 use Rattle.numbers.specs.declared.number.Number.the-variants.{Zero, Finite}
-use Rattle.numbers.proofs.Laws.Bias.{minus-minus}
-use Rattle.numbers.proofs.Laws.Exponent.{minus-same}
+use Rattle.numbers.proofs.Laws.Working.{finite-working}
+use Rattle.numbers.proofs.Laws.Minus.{minus-same, minus-minus}
 use Rattle.numbers.proofs.Laws.Same.{same-number}
-use Rattle.numbers.proofs.Laws.Signed.{minus-fits}
+use Rattle.numbers.proofs.Laws.SignedWords.{minus-fits}
+use Rattle.numbers.proofs.Laws.Scaled.{origin-is, working-scaled, coarser, equal-scaled}
 use Rattle.division.specs.Quotient.{isZero}
-use Rattle.steps.specs.Run.{IsResult}
 use Rattle.division.specs.Seed.{indexOf}
-use Rattle.steps.specs.Steps.{seed}
-use Rattle.division.proofs.Laws.Admissible.{admissible-parts, finite-working}
-use Rattle.division.proofs.Laws.Scaled.{origin-is, working-scaled, coarser, equal-scaled}
+use Rattle.division.proofs.Laws.Admissible.{admissible-parts}
 use Rattle.division.proofs.Laws.Seeds.{entryFor, entry-range, index-below}
-use Rattle.steps.proofs.Laws.Seed.{seed-step}
-use Rattle.division.proofs.Laws.Range.{InRange, IsRemainder}
+use Rattle.division.proofs.Laws.Range.{InRange, IsBounded, lowestAdmissible}
+use Rattle.steps.specs.Run.{IsResult}
+use Rattle.steps.specs.Steps.{seed}
+use Rattle.steps.proofs.Laws.SeedStep.{seed-step}
 use Rattle.steps.proofs.seed.seed.Statement.{statement}
 use Rattle.steps.proofs.seed.seed.Tie as tie
 
@@ -38,23 +39,24 @@ unfolding isZero
 not-zero d is h = false≢true (sym h ∙ ap isZero is)
 
 module _ (d : Number) (s : Bool) (e : ℤ) (S : ℕ) (is : d ≡ Finite s e S) (fit : isAdmissible d ≡ true) (fits : SFits w32 e) where
-  parts : IsRemainder 49089 (Finite s e S)
+  parts : IsBounded lowestAdmissible (Finite s e S)
   parts = admissible-parts (Finite s e S) (subst (λ (x : Number). isAdmissible x ≡ true) is fit)
 
   abbrev b : ℕ
   b = parts .0
 
-  range : InRange 49089 b S
+  range : InRange lowestAdmissible b S
   range = parts .2
 
-  exponent-is : negsuc 0 -ℤ toZ w32 (ofZ w32 e) ≡ minus (131069 - b) 65535
+  -- −1 − e, biased, is 131,069 − b: 131,069 is 2 × 65,535 − 1
+  exponent-is : negsuc 0 -ℤ toZ w32 (ofZ w32 e) ≡ minus (131069 - b) bias
   exponent-is =
       ap (λ (z : ℤ). negsuc 0 -ℤ z) (toZ-ofZ fits ∙ parts .1)
-      ∙ minus-minus 0 1 b 65535
-      ∙ minus-same (0 + 65535) (1 + b) (131069 - b) 65535 (omega (arith, range .highest))
+      ∙ minus-minus 0 1 b bias
+      ∙ minus-same (0 + bias) (1 + b) (131069 - b) bias (omega (arith, range .highest))
 
   exponent-fits : SFits w32 (negsuc 0 -ℤ toZ w32 (ofZ w32 e))
-  exponent-fits = rw exponent-is (minus-fits (131069 - b) 65535 (omega arith) (omega (arith, range .highest)))
+  exponent-fits = rw exponent-is (minus-fits (131069 - b) bias (omega arith) (omega (arith, range .highest)))
 
   module _ (T : ℕ) (entry : T ≡ entryFor S) where
     -- the number that the code makes
@@ -64,7 +66,7 @@ module _ (d : Number) (s : Bool) (e : ℤ) (S : ℕ) (is : d ≡ Finite s e S) (
     byte : (128 ≤ entryFor S) × (entryFor S < 256)
     byte = entry-range (indexOf S) (index-below S)
 
-    made-is : made ≡ Finite s (minus (131069 - b) 65535) (entryFor S * 2 ^ 56)
+    made-is : made ≡ Finite s (minus (131069 - b) bias) (entryFor S * 2 ^ 56)
     made-is =
         ap₂ (λ (z : ℤ) (n : ℕ). Finite s z n) (toZ-ofZ exponent-fits ∙ exponent-is)
         (ap (λ (n : ℕ). n * 2 ^ 56 % 2 ^ 64) entry ∙ mod-eq-of-lt (omega (arith, byte .1)))
@@ -73,34 +75,19 @@ module _ (d : Number) (s : Bool) (e : ℤ) (S : ℕ) (is : d ≡ Finite s e S) (
     unfolding outcome IsResult
     seeded =
         let step = seed-step s b S range in
-        let x = Finite s (minus (131069 - b) 65535) (entryFor S * 2 ^ 56) in
+        let x = Finite s (minus (131069 - b) bias) (entryFor S * 2 ^ 56) in
         let fit = finite-working s (131069 - b) (entryFor S * 2 ^ 56) (omega arith) (omega (arith, byte .0)) (omega (arith, byte .1)) in
         let own = working-scaled s (131069 - b) (entryFor S * 2 ^ 56) in
         let equal = equal-scaled (step .amount) (coarser (entryFor S) 56 own (omega (arith, origin-is, range .highest))) in
         let number = same-number (step .number) x (step .fit) fit equal ∙ sym made-is in
-        let divisor : Finite s (minus b 65535) S ≡ d = ap (λ (z : ℤ). Finite s z S) (sym (parts .1)) ∙ sym is in
+        let divisor : Finite s (minus b bias) S ≡ d = ap (λ (z : ℤ). Finite s z S) (sym (parts .1)) ∙ sym is in
         (ap given (sym number) ∙ sym (step .step) ∙ ap (λ (y : Number). rounded (claim 8) (seed y)) divisor, rw (← number) (step .fit))
-
-enum-known-d : tie.Need-enum-known-d
-enum-known-d c = search needs
-
-enum-told : tie.Need-enum-told
-enum-told c = search needs
-
-returns : tie.Need-returns
-returns c = absurd (not-zero _ (c .enum-told .given .1) (c .before .before .pre .1))
-
-entry-for-requires : tie.Need-entry-for-requires
-entry-for-requires c κs = search needs
 
 sub-t7 : tie.Need-sub-t7
 sub-t7 c =
     let v = c .before .before .d .given in
     let fits : SFits w32 (v .0 .1 .0) = search needs in
     exponent-fits _ _ _ _ (v .1) (c .before .before .before .before .pre .0) fits
-
-cast-t8 : tie.Need-cast-t8
-cast-t8 c = search needs
 
 returns-2 : tie.Need-returns-2
 returns-2 c =
@@ -109,4 +96,4 @@ returns-2 c =
     seeded _ _ _ _ (v .1) (c .before .before .before .before .pre .0) fits (c .entry-for .result) (c .entry-for .ensures)
 
 pub seed-spec : {M : Type 1} → statement M
-seed-spec = tie.close (tie.spec enum-known-d enum-told returns entry-for-requires sub-t7 cast-t8 returns-2)
+seed-spec = tie.close (tie.spec (λ c. search needs) (λ c. search needs) (λ c. absurd (not-zero _ (c .enum-told .given .1) (c .before .before .pre .1))) (λ c κs. search needs) sub-t7 (λ c. search needs) returns-2)

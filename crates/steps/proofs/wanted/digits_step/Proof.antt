@@ -5,17 +5,12 @@ use native.Mathlib.Omega.{arith}
 use lib.Dec.{lit≤}
 use borrow.Author.Needs.{needs}
 use Rattle.numbers.specs.Answer.{Outcome, outcome}
-use Rattle.numbers.specs.Rounding.{precisionOf}
 use Rattle.steps.specs.Run.{stepsOf, digitStep}
 use Rattle.steps.specs.Steps.{afterStep}
 use Rattle.steps.proofs.Laws.Run.{operand-result, item, first-value, later-value}
-use Rattle.steps.proofs.Lines.{line-9, first-digit-lines}
+use Rattle.steps.proofs.TableLines.{line-9, first-digit-lines}
 use Rattle.steps.proofs.wanted.digits_step.Statement.{statement}
 use Rattle.steps.proofs.wanted.digits_step.Tie as tie
-
-rounded-requires : tie.Need-rounded-requires
-unfolding precisionOf
-rounded-requires c κs = search (operand-result _ (c .pre .0), needs)
 
 -- the value after a step
 abbrev at : tie.After-rounded → ℕ → Outcome
@@ -24,12 +19,6 @@ at c k = let args = c .before .args in afterStep (args .p) (args .d) (args .task
 first-remainder : (c : tie.After-rounded) → outcome (c .rounded .result) ≡ at c 9
 unfolding outcome
 first-remainder c = c .rounded .ensures .0 ∙ sym (line-9 _ _ _)
-
-returns : tie.Need-returns
-returns c = rw (c .if1 .taken) (first-remainder (c .before))
-
-divisor-of-requires : tie.Need-divisor-of-requires
-divisor-of-requires c κs = search needs
 
 -- the divisor is the values after steps 6 to 8
 is-reciprocal : (c : tie.After-divisor-of) → outcome (c .divisor-of .result .reciprocal) ≡ at (c .before .before) 6
@@ -41,30 +30,17 @@ is-high c = let args = c .before .before .before .args in c .divisor-of .ensures
 is-low : (c : tie.After-divisor-of) → outcome (c .divisor-of .result .low) ≡ at (c .before .before) 8
 is-low c = let args = c .before .before .before .args in c .divisor-of .ensures .low (args .p) (args .task)
 
-digit-of-requires : tie.Need-digit-of-requires
-unfolding precisionOf
-digit-of-requires c κs = search (c .divisor-of .ensures .reciprocal-result, needs)
-
 -- the first digit, from the place where it is worked out
 first-digit : (c : tie.After-digit-of) → outcome (c .digit-of .result) ≡ at (c .before .before .before) 11
 unfolding stepsOf
 first-digit c =
     rw (c .digit-of .ensures .0, first-remainder (c .before .before .before), is-reciprocal (c .before)) (item 1 (first-digit-lines _ _ _))
 
-sub-digit-step : tie.Need-sub-digit-step
-sub-digit-step c = search needs
-
-digit-step-requires : tie.Need-digit-step-requires
-digit-step-requires c κs = search needs
-
 returns-2 : tie.Need-returns-2
 returns-2 c =
     let digit = c .before .before in
     let divisor = digit .before in
     rw (c .digit-step .ensures, first-remainder (divisor .before .before), first-digit digit, is-high divisor, is-low divisor) (first-value _ _ _ _ (omega arith) (omega arith))
-
-remainder-after-requires : tie.Need-remainder-after-requires
-remainder-after-requires c κs = search needs
 
 second-remainder : (c : tie.After-remainder-after) → outcome (c .remainder-after .result) ≡ at (c .before .before .before .before .before) 15
 unfolding digitStep stepsOf
@@ -73,9 +49,6 @@ second-remainder c =
     let divisor = digit .before in
     rw (c .remainder-after .ensures .0, first-remainder (divisor .before .before), first-digit digit, is-high divisor, is-low divisor)
     (first-value _ _ _ 15 (lit≤ tt) (lit≤ tt))
-
-later-step-requires : tie.Need-later-step-requires
-later-step-requires c κs = search needs
 
 returns-3 : tie.Need-returns-3
 returns-3 c =
@@ -88,13 +61,13 @@ pub digits-step-spec : {M : Type 1} → statement M
 digits-step-spec =
     tie.close
     (tie.spec
-    rounded-requires
-    returns
-    divisor-of-requires
-    digit-of-requires
-    sub-digit-step
-    digit-step-requires
+    (λ c κs. search (operand-result _ (c .pre .0), needs))
+    (λ c. rw (c .if1 .taken) (first-remainder (c .before)))
+    (λ c κs. search needs)
+    (λ c κs. search (c .divisor-of .ensures .reciprocal-result, needs))
+    (λ c. search needs)
+    (λ c κs. search needs)
     returns-2
-    remainder-after-requires
-    later-step-requires
+    (λ c κs. search needs)
+    (λ c κs. search needs)
     returns-3)

@@ -2,7 +2,6 @@
 use mathlib.Core.Path.{_≡_}
 use native.Mathlib.Omega.{arith}
 use borrow.Author.Needs.{needs}
-use Rattle.numbers.specs.Rounding.{precisionOf}
 use Rattle.steps.specs.Run.{sumSteps, lastStep}
 use Rattle.steps.proofs.wanted.last_step.Statement.{statement}
 use Rattle.steps.proofs.wanted.last_step.Tie as tie
@@ -11,24 +10,13 @@ returns : tie.Need-returns
 unfolding lastStep
 returns c = rw (c .if1 .taken)
 
-combined-requires : tie.Need-combined-requires
-unfolding precisionOf
-combined-requires c κs = search needs
-
 returns-2 : tie.Need-returns-2
 unfolding lastStep sumSteps
 returns-2 c = rw (c .if2 .taken) (c .before .combined .ensures .0)
 
-combined-requires-2 : tie.Need-combined-requires-2
-unfolding precisionOf
-combined-requires-2 c κs = search needs
-
 returns-3 : tie.Need-returns-3
 unfolding lastStep sumSteps
 returns-3 c = rw (c .if3 .taken) (rw (c .before .before .before .combined .ensures .0) at (c .before .combined2 .ensures .0))
-
-combined-requires-3 : tie.Need-combined-requires-3
-combined-requires-3 c κs = search needs
 
 returns-4 : tie.Need-returns-4
 unfolding lastStep sumSteps
@@ -39,4 +27,4 @@ returns-4 c =
     rw (last, c .combined3 .ensures .0, middle .combined2 .ensures .0, low .combined .ensures .0)
 
 pub last-step-spec : {M : Type 1} → statement M
-last-step-spec = tie.close (tie.spec returns combined-requires returns-2 combined-requires-2 returns-3 combined-requires-3 returns-4)
+last-step-spec = tie.close (tie.spec returns (λ c κs. search needs) returns-2 (λ c κs. search needs) returns-3 (λ c κs. search needs) returns-4)

@@ -4,7 +4,7 @@ use Prim.Native.Nat.{ℕ, _-_, _≤_}
 use native.Mathlib.Omega.{arith}
 use borrow.Author.Needs.{needs}
 use Rattle.numbers.specs.Answer.{Outcome, outcome}
-use Rattle.numbers.specs.Rounding.{byMode, precisionOf}
+use Rattle.numbers.specs.Rounding.{byMode}
 use Rattle.numbers.specs.declared.task.Mode.the-variants.{Trunc, Away}
 use Rattle.numbers.specs.declared.task.Task.{Task}
 use Rattle.steps.specs.Run.{digitOf, remainderAfter, stepsOf, digitStep, sumSteps, lastStep, laterSteps, laterStep}
@@ -43,21 +43,8 @@ module _ (r1 s h l : Outcome) where
     unfolding lastStep laterStep laterSteps stepsOf sumSteps
     last-steps low high = part-item (laterSteps task q0 r1 s h l) _ 4 13 16 k refl low (omega arith)
 
-digit-of-requires : tie.Need-digit-of-requires
-unfolding precisionOf
-digit-of-requires c κs = search needs
-
-sub-digit-step : tie.Need-sub-digit-step
-sub-digit-step c = search needs
-
-digit-step-requires : tie.Need-digit-step-requires
-digit-step-requires c κs = search needs
-
 returns : tie.Need-returns
 returns c = rw (c .digit-step .ensures, c .before .before .digit-of .ensures .0) (second-digit _ _ _ _ _ _ _ (omega arith) (omega arith))
-
-remainder-after-requires : tie.Need-remainder-after-requires
-remainder-after-requires c κs = search needs
 
 third-remainder : (c : tie.After-remainder-after) →
     let args = c .before .before .before .args in
@@ -65,23 +52,10 @@ third-remainder : (c : tie.After-remainder-after) →
     outcome (c .remainder-after .result) ≡ r2 (outcome (args .remainder)) (outcome (divisor .reciprocal)) (outcome (divisor .high)) (outcome (divisor .low))
 third-remainder c = rw (c .remainder-after .ensures .0, c .before .before .digit-of .ensures .0)
 
-digit-of-requires-2 : tie.Need-digit-of-requires-2
-unfolding precisionOf
-digit-of-requires-2 c κs = search needs
-
-sub-digit-step-2 : tie.Need-sub-digit-step-2
-sub-digit-step-2 c = search needs
-
-digit-step-requires-2 : tie.Need-digit-step-requires-2
-digit-step-requires-2 c κs = search needs
-
 returns-2 : tie.Need-returns-2
 returns-2 c =
     let digit = c .before .before in
     rw (c .digit-step2 .ensures, digit .digit-of2 .ensures .0, third-remainder (digit .before)) (third-digit _ _ _ _ _ _ _ (omega arith) (omega arith))
-
-remainder-after-requires-2 : tie.Need-remainder-after-requires-2
-remainder-after-requires-2 c κs = search needs
 
 fourth-remainder : (c : tie.After-remainder-after2) →
     let args = c .before .before .before .before .before .before .args in
@@ -91,20 +65,9 @@ fourth-remainder c =
     let digit = c .before .before in
     rw (c .remainder-after2 .ensures .0, digit .digit-of2 .ensures .0, third-remainder (digit .before))
 
-rounded-requires : tie.Need-rounded-requires
-unfolding precisionOf
-rounded-requires c κs = search needs
-
 returns-3 : tie.Need-returns-3
 unfolding laterStep laterSteps stepsOf
 returns-3 c = rw (c .before .if3 .taken, c .rounded .ensures .0, fourth-remainder (c .before .before))
-
-digit-of-requires-3 : tie.Need-digit-of-requires-3
-unfolding precisionOf
-digit-of-requires-3 c κs = search needs
-
-last-step-requires : tie.Need-last-step-requires
-last-step-requires c κs = search needs
 
 returns-4 : tie.Need-returns-4
 returns-4 c =
@@ -119,18 +82,18 @@ pub later-step-spec : {M : Type 1} → statement M
 later-step-spec =
     tie.close
     (tie.spec
-    digit-of-requires
-    sub-digit-step
-    digit-step-requires
+    (λ c κs. search needs)
+    (λ c. search needs)
+    (λ c κs. search needs)
     returns
-    remainder-after-requires
-    digit-of-requires-2
-    sub-digit-step-2
-    digit-step-requires-2
+    (λ c κs. search needs)
+    (λ c κs. search needs)
+    (λ c. search needs)
+    (λ c κs. search needs)
     returns-2
-    remainder-after-requires-2
-    rounded-requires
+    (λ c κs. search needs)
+    (λ c κs. search needs)
     returns-3
-    digit-of-requires-3
-    last-step-requires
+    (λ c κs. search needs)
+    (λ c κs. search needs)
     returns-4)

@@ -8,12 +8,6 @@ use Rattle.little_endian.proofs.Laws.Bytes.{read-whole}
 use Rattle.codes.proofs.binary64.Binary64.from_bytes.Statement.{statement}
 use Rattle.codes.proofs.binary64.Binary64.from_bytes.Tie as tie
 
-read-requires : tie.Need-read-requires
-read-requires c κs = search needs
-
-from-bits-requires : tie.Need-from-bits-requires
-from-bits-requires c κs = search needs
-
 returns : tie.Need-returns
 unfolding IsBytes
 returns c =
@@ -21,4 +15,4 @@ returns c =
     c .from-bits .ensures ∙ c .before .read .ensures ∙ read-whole _ (λ (i : ℕ). known .shared-slice-known .given i .fits) (le-of-eq (known .before .pre))
 
 pub from-bytes-spec : {M : Type 1} → statement M
-from-bytes-spec = tie.close (tie.spec read-requires from-bits-requires returns)
+from-bytes-spec = tie.close (tie.spec (λ c κs. search needs) (λ c κs. search needs) returns)

@@ -4,9 +4,6 @@ use Rattle.codes.specs.Codes.{doubleExtended}
 use Rattle.codes.proofs.double_extended.DoubleExtended.format.Statement.{statement}
 use Rattle.codes.proofs.double_extended.DoubleExtended.format.Tie as tie
 
-returns : tie.Need-returns
-unfolding doubleExtended
-returns c = refl
-
 pub format-spec : {M : Type 1} → statement M
-format-spec = tie.close (tie.spec returns)
+unfolding doubleExtended
+format-spec = tie.close (tie.spec (λ c. refl))

@@ -3,8 +3,5 @@ use mathlib.Core.Path.{refl}
 use Rattle.codes.proofs.double_extended.DoubleExtended.from_bits.Statement.{statement}
 use Rattle.codes.proofs.double_extended.DoubleExtended.from_bits.Tie as tie
 
-returns : tie.Need-returns
-returns c = (refl, refl)
-
 pub from-bits-spec : {M : Type 1} → statement M
-from-bits-spec = tie.close (tie.spec returns)
+from-bits-spec = tie.close (tie.spec (λ c. (refl, refl)))

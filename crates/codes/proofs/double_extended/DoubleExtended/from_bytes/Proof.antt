@@ -9,30 +9,6 @@ use Rattle.little_endian.proofs.Laws.Bytes.{first-length, read-parts}
 use Rattle.codes.proofs.double_extended.DoubleExtended.from_bytes.Statement.{statement}
 use Rattle.codes.proofs.double_extended.DoubleExtended.from_bytes.Tie as tie
 
-slice-aggregate-read : tie.Need-slice-aggregate-read
-slice-aggregate-read c = sym (first-length _ 10 (lit≤ tt) (c .before .before .args .bytes .now) (c .before .before .pre))
-
-read-requires : tie.Need-read-requires
-read-requires c κs = search needs
-
-sub-read : tie.Need-sub-read
-sub-read c = search needs
-
-part-read-start : tie.Need-part-read-start
-part-read-start c = search needs
-
-part-read-end : tie.Need-part-read-end
-part-read-end c = search needs
-
-read-requires-2 : tie.Need-read-requires-2
-read-requires-2 c κs = search needs
-
-cast-from-bits : tie.Need-cast-from-bits
-cast-from-bits c = search needs
-
-from-bits-requires : tie.Need-from-bits-requires
-from-bits-requires c κs = search needs
-
 returns : tie.Need-returns
 unfolding IsBytes
 returns c =
@@ -45,12 +21,12 @@ pub from-bytes-spec : {M : Type 1} → statement M
 from-bytes-spec =
     tie.close
     (tie.spec
-    slice-aggregate-read
-    read-requires
-    sub-read
-    part-read-start
-    part-read-end
-    read-requires-2
-    cast-from-bits
-    from-bits-requires
+    (λ c. sym (first-length _ 10 (lit≤ tt) (c .before .before .args .bytes .now) (c .before .before .pre)))
+    (λ c κs. search needs)
+    (λ c. search needs)
+    (λ c. search needs)
+    (λ c. search needs)
+    (λ c κs. search needs)
+    (λ c. search needs)
+    (λ c κs. search needs)
     returns)

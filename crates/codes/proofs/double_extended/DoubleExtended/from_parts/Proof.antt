@@ -8,28 +8,10 @@ use Rattle.codes.proofs.Laws.Leading.{upper-below}
 use Rattle.codes.proofs.double_extended.DoubleExtended.from_parts.Statement.{statement}
 use Rattle.codes.proofs.double_extended.DoubleExtended.from_parts.Tie as tie
 
-sign-bit-requires : tie.Need-sign-bit-requires
-sign-bit-requires c κs = search needs
-
 -- the sign and the field have 16 bits
 room : (c : tie.After-sign-bit) → c .sign-bit .result * 32768 + c .before .args .code .field < 65536
 unfolding exponentBits doubleExtended
 room c = upper-below doubleExtended _ _ (c .before .pre) (c .sign-bit .ensures)
-
-mul-upper : tie.Need-mul-upper
-mul-upper c = omega (arith, room c)
-
-cast-upper : tie.Need-cast-upper
-cast-upper c = search needs
-
-add-upper : tie.Need-add-upper
-add-upper c = omega (arith, room (c .before))
-
-cast-from-bits : tie.Need-cast-from-bits
-cast-from-bits c = omega (arith, room (c .before))
-
-from-bits-requires : tie.Need-from-bits-requires
-from-bits-requires c κs = search needs
 
 returns : tie.Need-returns
 unfolding join exponentBits doubleExtended
@@ -37,4 +19,12 @@ returns c = rw (c .from-bits .ensures .0, c .from-bits .ensures .1, c .before .b
 
 pub from-parts-spec : {M : Type 1} → statement M
 from-parts-spec =
-    tie.close (tie.spec sign-bit-requires mul-upper cast-upper add-upper cast-from-bits from-bits-requires returns)
+    tie.close
+    (tie.spec
+    (λ c κs. search needs)
+    (λ c. omega (arith, room c))
+    (λ c. search needs)
+    (λ c. omega (arith, room (c .before)))
+    (λ c. omega (arith, room (c .before)))
+    (λ c κs. search needs)
+    returns)

@@ -1,22 +1,16 @@
 -- `codes::double_extended::DoubleExtended::number` meets its contract: the code is taken apart, and the number of its parts is answered.
 use borrow.Author.Needs.{needs}
-use Rattle.codes.specs.Codes.{doubleExtended}
-use Rattle.codes.proofs.Laws.Entries.{number-is, read-requires}
-use Rattle.codes.proofs.Laws.Parts.{double-extended-format}
+use Rattle.codes.specs.Codes.{doubleExtended, numberOf}
+use Rattle.codes.proofs.Laws.Parts.{double-extended-format, split-code}
 use Rattle.codes.proofs.double_extended.DoubleExtended.number.Statement.{statement}
 use Rattle.codes.proofs.double_extended.DoubleExtended.number.Tie as tie
 
-parts-requires : tie.Need-parts-requires
-parts-requires c κs = search needs
-
-format-requires : tie.Need-format-requires
-format-requires c κs = search needs
-
-fit-number-requires : tie.Need-fit-number-requires
-fit-number-requires c κs = read-requires doubleExtended _ _ _ double-extended-format (c .format .ensures) (c .before .parts .ensures)
-
-returns : tie.Need-returns
-returns c = number-is doubleExtended _ _ _ _ (c .before .format .ensures) (c .before .before .parts .ensures) (c .fit-number .ensures)
-
 pub number-spec : {M : Type 1} → statement M
-number-spec = tie.close (tie.spec parts-requires format-requires fit-number-requires returns)
+unfolding numberOf
+number-spec =
+    tie.close
+    (tie.spec
+    (λ c κs. search needs)
+    (λ c κs. search needs)
+    (λ c κs. rw (c .format .ensures, c .before .parts .ensures) (double-extended-format, split-code doubleExtended _ double-extended-format))
+    (λ c. rw (← c .before .before .parts .ensures, ← c .before .format .ensures) (c .fit-number .ensures)))

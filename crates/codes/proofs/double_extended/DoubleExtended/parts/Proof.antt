@@ -9,19 +9,10 @@ use Rattle.codes.specs.Codes.{doubleExtended, exponentBits, leadingOne, 
 use Rattle.codes.proofs.double_extended.DoubleExtended.parts.Statement.{statement}
 use Rattle.codes.proofs.double_extended.DoubleExtended.parts.Tie as tie
 
-cast-upper : tie.Need-cast-upper
-cast-upper c = search needs
-
-cast-t6 : tie.Need-cast-t6
-cast-t6 c = search needs
-
 -- nothing is added to the significand, which has its top bit
 parts : (h l : ℕ) → l < 2 ^ 64 → split doubleExtended (h * 2 ^ 64 + l) ≡ record { negative = ltb 0 (h / 32768); field = h % 32768; significand = l }
 unfolding split exponentBits leadingOne doubleExtended
 parts h l b = rw (high h 64 b, low h 64 b, add-zero)
 
-returns : tie.Need-returns
-returns c = sym (parts _ _ (c .struct-known .given .1 .0 .fits))
-
 pub parts-spec : {M : Type 1} → statement M
-parts-spec = tie.close (tie.spec cast-upper cast-t6 returns)
+parts-spec = tie.close (tie.spec (λ c. search needs) (λ c. search needs) (λ c. sym (parts _ _ (c .struct-known .given .1 .0 .fits))))

@@ -1,43 +1,42 @@
 -- `codes::double_extended::DoubleExtended::write` meets its contract: a refusal leaves the bytes alone, and a code is put into them.
 use borrow.Author.Needs.{needs}
-use Rattle.codes.specs.Codes.{doubleExtended}
-use Rattle.codes.proofs.Laws.Entries.{held-format, write-refused, write-long, write-room, write-code}
+use Rattle.codes.specs.Codes.{doubleExtended, packed, writing, refusalOf}
+use Rattle.codes.specs.Layout.{laid}
+use Rattle.codes.proofs.Laws.Entries.{packing-leaves}
 use Rattle.codes.proofs.Laws.Parts.{double-extended-format}
 use Rattle.codes.proofs.double_extended.DoubleExtended.write.Statement.{statement}
 use Rattle.codes.proofs.double_extended.DoubleExtended.write.Tie as tie
 
-format-requires : tie.Need-format-requires
-format-requires c κs = search needs
-
-pack-requires : tie.Need-pack-requires
-pack-requires c κs = held-format doubleExtended _ double-extended-format (c .format .ensures)
-
-enum-known-packed : tie.Need-enum-known-packed
-enum-known-packed c = search needs
-
-enum-known-packed-2 : tie.Need-enum-known-packed-2
-enum-known-packed-2 c = search needs
-
-from-parts-requires : tie.Need-from-parts-requires
-from-parts-requires c κs = write-room doubleExtended _ _ _ _ (c .before .before .before .before .format .ensures) (c .before .before .before .pack .ensures) _ (c .before .packed2 .given .1)
-
 write-bytes-requires : tie.Need-write-bytes-requires
 unfolding doubleExtended
-write-bytes-requires c κs = write-long doubleExtended _ _ _ _ (c .before .before .before .before .before .before .format .ensures) (c .before .before .before .before .before .pack .ensures) _ (c .before .before .before .packed2 .given .1)
+write-bytes-requires c κs =
+    let packing = c .before .before .before .before .before in
+    (rw (packing .before .format .ensures) at (packing .pack .ensures)) .long _ (c .before .before .before .packed2 .given .1)
 
 returns : tie.Need-returns
-returns c = write-refused doubleExtended _ _ _ _ (c .before .before .before .before .format .ensures) (c .before .before .before .pack .ensures) _ (c .before .packed .given .1)
-
-same-length : tie.Need-same-length
-same-length c = search needs
+unfolding laid
+returns c =
+    let packing = c .before .before .before in
+    packing-leaves doubleExtended _ _ _ _ _ (packing .before .format .ensures) (packing .pack .ensures) (c .before .packed .given .1)
 
 returns-2 : tie.Need-returns-2
-unfolding doubleExtended
+unfolding doubleExtended laid packed writing refusalOf
 returns-2 c =
-    write-code doubleExtended _ _ _ _ (c .before .before .before .before .before .before .before .before .before .format .ensures) (c .before .before .before .before .before .before .before .before .pack .ensures)
-    _ _ _ (c .before .before .before .before .before .before .packed2 .given .1) (c .before .before .before .before .from-parts .ensures) (c .before .before .write-bytes .ensures)
+    let at-packed = c .before .before .before .before .before .before in
+    let packing = at-packed .before .before in
+    rw (c .before .before .write-bytes .ensures, c .before .before .before .before .from-parts .ensures)
+    (packing-leaves doubleExtended _ _ _ _ _ (packing .before .format .ensures) (packing .pack .ensures) (at-packed .packed2 .given .1))
 
 pub write-spec : {M : Type 1} → statement M
 write-spec =
     tie.close
-    (tie.spec format-requires pack-requires enum-known-packed enum-known-packed-2 from-parts-requires write-bytes-requires returns same-length returns-2)
+    (tie.spec
+    (λ c κs. search needs)
+    (λ c κs. rw (c .format .ensures) double-extended-format)
+    (λ c. search needs)
+    (λ c. search needs)
+    (λ c κs. (rw (c .before .before .before .before .format .ensures) at (c .before .before .before .pack .ensures)) .room _ (c .before .packed2 .given .1))
+    write-bytes-requires
+    returns
+    (λ c. search needs)
+    returns-2)

@@ -7,13 +7,10 @@ use Rattle.text.specs.Text.{textOf}
 use Rattle.text.proofs.text.Text.count.Statement.{statement}
 use Rattle.text.proofs.text.Text.count.Tie as tie
 
-returns : tie.Need-returns
-unfolding textOf
-returns c = let t = c .before .args .self in let whole : length (t .bytes) ≡ 192 = search needs in rw (length-take (t .length) (t .bytes)) (omega arith)
-
-returns-2 : tie.Need-returns-2
-unfolding textOf
-returns-2 c = let t = c .before .args .self in let whole : length (t .bytes) ≡ 192 = search needs in rw (length-take (t .length) (t .bytes)) (omega arith)
-
 pub count-spec : {M : Type 1} → statement M
-count-spec = tie.close (tie.spec returns returns-2)
+unfolding textOf
+count-spec =
+    tie.close
+    (tie.spec
+    (λ c. let t = c .before .args .self in let whole : length (t .bytes) ≡ 192 = search needs in rw (length-take (t .length) (t .bytes)) (omega arith))
+    (λ c. let t = c .before .args .self in let whole : length (t .bytes) ≡ 192 = search needs in rw (length-take (t .length) (t .bytes)) (omega arith)))

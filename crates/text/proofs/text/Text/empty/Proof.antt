@@ -4,9 +4,6 @@ use Rattle.text.specs.Text.{textOf}
 use Rattle.text.proofs.text.Text.empty.Statement.{statement}
 use Rattle.text.proofs.text.Text.empty.Tie as tie
 
-returns : tie.Need-returns
-unfolding textOf
-returns c = search needs
-
 pub empty-spec : {M : Type 1} → statement M
-empty-spec = tie.close (tie.spec returns)
+unfolding textOf
+empty-spec = tie.close (tie.spec (λ c. search needs))

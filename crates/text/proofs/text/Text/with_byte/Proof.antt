@@ -9,15 +9,9 @@ returns : tie.Need-returns
 unfolding textOf
 returns c = let t = c .before .args .self in full (t .bytes) (t .length) (search needs) _ (c .if1 .taken)
 
-array-write-bytes : tie.Need-array-write-bytes
-array-write-bytes c = search needs
-
-add-t9 : tie.Need-add-t9
-add-t9 c = search needs
-
 returns-2 : tie.Need-returns-2
 unfolding textOf
 returns-2 c = let t = c .before .before .args .self in stored (t .bytes) (t .length) (search needs) (c .before .before .args .byte) (c .before .if1 .left)
 
 pub with-byte-spec : {M : Type 1} → statement M
-with-byte-spec = tie.close (tie.spec returns array-write-bytes add-t9 returns-2)
+with-byte-spec = tie.close (tie.spec returns (λ c. search needs) (λ c. search needs) returns-2)

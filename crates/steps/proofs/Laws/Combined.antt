@@ -13,9 +13,9 @@ use Rattle.numbers.specs.declared.answer.Answer.{Answer}
 use Rattle.numbers.specs.declared.answer.Answer.the-variants.{Given, UnknownMode, BadPrecision, FirstUnfit, SecondUnfit, ExponentOutside, TooManyBits}
 use Rattle.numbers.specs.declared.number.Number.{Number}
 use Rattle.numbers.specs.declared.task.Task.{Task}
+use Rattle.numbers.proofs.Laws.Scaled.{value-fraction}
 use Rattle.numbers.proofs.Laws.Fits.{given-working}
 use Rattle.numbers.proofs.Laws.Refusals.{range-precision, first-fit, none-unfit}
-use Rattle.numbers.proofs.Laws.Rounded.{value-fraction}
 use Rattle.numbers.proofs.answer.Answer.{the-type}
 use Rattle.arithmetic.specs.Operations.{exactOf, operationOf, roundingOf}
 use Rattle.arithmetic.specs.declared.operation.Operation.{Operation}

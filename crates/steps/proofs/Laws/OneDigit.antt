@@ -5,23 +5,23 @@ use Prim.Native.Nat.{ℕ, _+_, _-_, _≤_, _<_}
 use native.Mathlib.Omega.{arith}
 use lib.Dec.{lit≤}
 use lib.IntN.{natAbs, zero-*ℤ}
-use Rattle.numbers.specs.Fraction.{value, difference, product, quotient}
-use Rattle.numbers.specs.Rounding.{byMode, claim, isNegative}
+use Rattle.numbers.specs.Biased.{origin}
+use Rattle.numbers.specs.Fraction.{value, difference, product, quotient, isNegative, IsScaled}
+use Rattle.numbers.specs.Rounding.{byMode, claim}
 use Rattle.numbers.specs.declared.number.Number.{Number}
 use Rattle.numbers.specs.declared.number.Number.the-variants.{Zero, Finite}
 use Rattle.numbers.specs.declared.task.Mode.{Mode}
 use Rattle.numbers.specs.declared.task.Mode.the-variants.{Trunc, Away}
 use Rattle.numbers.proofs.Laws.Fits.{zero-working}
 use Rattle.numbers.proofs.Laws.Fractions.{product-fraction, quotient-zero}
-use Rattle.numbers.proofs.Laws.Rounded.{value-fraction}
 use Rattle.numbers.proofs.Laws.Signs.{abs-zero}
 use Rattle.numbers.proofs.Laws.Value.{rounded-zero}
+use Rattle.numbers.proofs.Laws.Scaled.{finite-scaled, zero-value, zero-scaled, value-fraction}
+use Rattle.division.proofs.Laws.Quotients.{quotient-short}
+use Rattle.division.proofs.Laws.Range.{InRange, IsBounded}
 use Rattle.steps.proofs.Laws.Estimate.{HasQuotient, has-quotient, in-units, has-digit, has-last}
 use Rattle.steps.proofs.Laws.Next.{after-digit, has-next}
-use Rattle.division.proofs.Laws.Quotients.{quotient-short}
-use Rattle.division.proofs.Laws.Scaled.{IsScaled, origin, finite-scaled, zero-value, zero-scaled}
-use Rattle.division.proofs.Laws.Range.{InRange, IsRemainder}
-use Rattle.steps.proofs.Laws.Terms.{IsPrepared, Under, HasDigit, HasNext, IsLast}
+use Rattle.steps.proofs.Laws.Terms.{IsPrepared, Under, HasDigit, HasNext, IsLast, lowestAfter}
 
 -- ---- zero
 
@@ -66,11 +66,11 @@ module _ {s : Bool} {b D : ℕ} (d : Number) (D0 : 0 < D) (divisor : IsScaled (v
 -- ---- any remainder
 
 module _ (s : Bool) (b D : ℕ) (d h l r : Number) (is : IsPrepared s b D d h l r)
-    (c g : ℕ) (low : 47000 ≤ c) (grid : c + 24 ≤ g) (x : Number) (remainder : IsRemainder c x) (under : Under D g x) where
+    (c g : ℕ) (low : lowestAfter 3 ≤ c) (grid : c + 24 ≤ g) (x : Number) (remainder : IsBounded c x) (under : Under D g x) where
   some : 0 < D
   some = omega (arith, is .range .top)
 
-  wider : {a R : ℕ} → InRange c a R → InRange 47000 a R
+  wider : {a R : ℕ} → InRange c a R → InRange (lowestAfter 3) a R
   wider range = record { lowest = omega arith; highest = range .highest; top = range .top; word = range .word }
 
   quotient-of : (mode : Mode) {t : Bool} {a R : ℕ} (y : Number) → InRange c a R → IsScaled (value y) t R a origin → HasQuotient mode s t b D a R r y
@@ -81,7 +81,7 @@ module _ (s : Bool) (b D : ℕ) (d h l r : Number) (is : IsPrepared s b D d h l 
   unfolding zero-digit has-digit
   digit-away = go x remainder under
     where
-      go : (x : Number) → IsRemainder c x → Under D g x → (a : HasDigit Away b D g d r x) × (c ≤ a .unit) × HasNext b D (a .unit) (c - 88) d h l x (a .digit)
+      go : (x : Number) → IsBounded c x → Under D g x → (a : HasDigit Away b D g d r x) × (c ≤ a .unit) × HasNext b D (a .unit) (c - 88) d h l x (a .digit)
       go Zero remainder under = (zero-digit Away b D g (g - 24) d r (omega arith), omega arith, zero-next d some (is .amount) (g - 24) (c - 88) h l)
       go (Finite t e R) (a, k, range) under =
           let amount = finite-scaled t a R k in
@@ -97,7 +97,7 @@ module _ (s : Bool) (b D : ℕ) (d h l r : Number) (is : IsPrepared s b D d h l 
   unfolding zero-digit has-digit
   digit-trunc = go x remainder under
     where
-      go : (x : Number) → IsRemainder c x → Under D g x → (a : HasDigit Trunc b D g d r x) × (c ≤ a .unit) × IsLast d x (a .digit)
+      go : (x : Number) → IsBounded c x → Under D g x → (a : HasDigit Trunc b D g d r x) × (c ≤ a .unit) × IsLast d x (a .digit)
       go Zero remainder under = (zero-digit Trunc b D g (g - 24) d r (omega arith), omega arith, zero-last d some (is .amount))
       go (Finite t e R) (a, k, range) under =
           let amount = finite-scaled t a R k in

@@ -7,26 +7,29 @@ use native.Mathlib.Omega.{arith}
 use lib.Dec.{eqb}
 use lib.Ieee.{minus, up, down}
 use lib.Ieee.Digits.{minus-val}
-use lib.Ieee.Fits.{up-pos, down-pos}
+use lib.Ieee.Fits.{down-pos}
 use lib.IntN.{ℤ, natAbs, sucℤ}
 use lib.Pow.{pow-add, pow-pos}
+use Rattle.numbers.specs.Biased.{bias}
 use Rattle.numbers.specs.Number.{isWorkingExponent, isWorking}
-use Rattle.numbers.specs.Fraction.{Fraction, IsFraction, signed, value}
-use Rattle.numbers.specs.Rounding.{scaledNumerator, scaledDenominator, hasAtMostBits, wholeOf, placed, isNegative, round, byMode, claim, precisionOf}
+use Rattle.numbers.specs.Fraction.{Fraction, IsFraction, signed, value, isNegative, scaled, IsScaled}
+use Rattle.numbers.specs.Rounding.{scaledNumerator, scaledDenominator, hasAtMostBits, wholeOf, placed, round, byMode, claim}
 use Rattle.numbers.specs.Answer.{given, rounded, checked}
 use Rattle.numbers.specs.declared.number.Number.{Number}
 use Rattle.numbers.specs.declared.number.Number.the-variants.{Zero, Finite}
 use Rattle.numbers.specs.declared.task.Mode.{Mode}
 use Rattle.numbers.specs.declared.task.Mode.the-variants.{Trunc}
+use Rattle.numbers.proofs.Laws.Pairs.{equal-through}
+use Rattle.numbers.proofs.Laws.Minus.{suc-minus}
 use Rattle.numbers.proofs.Laws.Bias.{working}
 use Rattle.numbers.proofs.Laws.Bits.{bits-of, claim-holds}
 use Rattle.numbers.proofs.Laws.Bounds.{kept}
-use Rattle.numbers.proofs.Laws.Exponent.{exponent-unique, suc-minus}
+use Rattle.numbers.proofs.Laws.Exponent.{scaled-positive, exponent-unique}
 use Rattle.numbers.proofs.Laws.Fits.{round-placed, given-working, zero-working}
 use Rattle.numbers.proofs.Laws.Powers.{power-twice, top-bit, pow-below, below-top}
-use Rattle.numbers.proofs.Laws.Rounded.{value-fraction, IsUnits, exponent, top, bottom, whole, round-units}
-use Rattle.numbers.proofs.Laws.Value.{whole-alone, rounded-zero, equal-through}
-use Rattle.division.proofs.Laws.Scaled.{scaled, IsScaled, scaled-fraction, zero-value, zero-scaled, signed-scaled, scaled-size, scaled-some, scaled-none, scaled-sign}
+use Rattle.numbers.proofs.Laws.Rounded.{IsUnits, exponent, numeratorAt, denominatorAt, whole, round-units}
+use Rattle.numbers.proofs.Laws.Value.{whole-alone, rounded-zero}
+use Rattle.numbers.proofs.Laws.Scaled.{zero-value, zero-scaled, signed-scaled, scaled-size, scaled-some, scaled-none, scaled-sign, value-fraction}
 
 -- the exponent, by the top bit T of A
 module _ {x : Fraction} {s : Bool} {A i o : ℕ} (h : IsScaled x s A i o) (T : ℕ) (t0 : 2 ^ T ≤ A) (t1 : A < 2 ^ suc T) where
@@ -34,7 +37,6 @@ module _ {x : Fraction} {s : Bool} {A i o : ℕ} (h : IsScaled x s A i o) (T : �
   some = scaled-some h (lt-of-lt-of-le (pow-pos T) t0)
 
   scaled-exponent : exponent x ≡ minus (T + i) o
-  unfolding IsFraction
   scaled-exponent =
       exponent-unique (natAbs (x .numerator)) (x .denominator) (T + i) o some (h .positive)
       (omega (arith, scaled-size h, ap (λ (n : ℕ). n * x .denominator) (pow-add 2 T i), mul-le-mul-right (2 ^ i * x .denominator) t0))
@@ -47,7 +49,7 @@ module _ {x : Fraction} {s : Bool} {A i o : ℕ} (h : IsScaled x s A i o) (T : �
       ))
 
   -- it is working, and one more is too
-  scaled-working : (K : ℕ) → A < 2 ^ K → o ≤ i + 65535 → i + K ≤ o + 65536 → (isWorkingExponent (exponent x) ≡ true) × (isWorkingExponent (sucℤ (exponent x)) ≡ true)
+  scaled-working : (K : ℕ) → A < 2 ^ K → o ≤ i + bias → i + K ≤ o + 65536 → (isWorkingExponent (exponent x) ≡ true) × (isWorkingExponent (sucℤ (exponent x)) ≡ true)
   scaled-working K k low high =
       let l : T < K = pow-below T K (lt-of-le-of-lt t0 k) in
       rw scaled-exponent (working (T + i) o (omega arith) (omega arith), rw (suc-minus (T + i) o) (working (suc (T + i)) o (omega arith) (omega arith)))
@@ -61,8 +63,8 @@ pub record IsClaimed (n : ℕ) (x : Fraction) (s : Bool) (N i o : ℕ) : Type 0 
   pub amount : IsScaled (value number) s N i o
 
 -- An exact claim of a whole number of n bits holds, where the exponent is working whatever the number's size.
-pub claimed-scaled : (n : ℕ) {x : Fraction} {s : Bool} {N i o : ℕ} → IsScaled x s N i o → 1 ≤ n → n ≤ 64 → N < 2 ^ n → o ≤ i + 65535 → i + n ≤ o + 65536 → IsClaimed n x s N i o
-unfolding IsFraction rounded precisionOf
+pub claimed-scaled : (n : ℕ) {x : Fraction} {s : Bool} {N i o : ℕ} → IsScaled x s N i o → 1 ≤ n → n ≤ 64 → N < 2 ^ n → o ≤ i + bias → i + n ≤ o + 65536 → IsClaimed n x s N i o
+unfolding rounded
 claimed-scaled n {x} {s} {N = zero} h n0 n1 small low high = record {
   number = Zero;
   step = rounded-zero (claim n) x (scaled-none h refl);
@@ -76,8 +78,7 @@ claimed-scaled n {x} {s} {N = suc m} {i} {o} h n0 n1 small low high = record {
   amount = record {
     positive = value-fraction y;
     amount =
-        equal-through (value y) x (scaled s (suc m) i o) (value-fraction y) (h .positive) (scaled-fraction s (suc m) i o) (kept x n (h .positive) n0 n1 Trunc bits)
-        (h .amount);
+        equal-through (value y) x (scaled s (suc m) i o) (h .positive) (kept x n (h .positive) n0 n1 Trunc bits) (h .amount);
   };
 }
   where
@@ -104,16 +105,23 @@ checked-placed s e n q w z = go (eqb q (2 ^ n))
     go true = rw z
     go false = rw w
 
--- Any A of K bits at most, zero too: the rounding is given, since the exponent is working whatever A is.
-pub given-scaled : (mode : Mode) (n K : ℕ) {x : Fraction} {s : Bool} {A i o : ℕ} → IsScaled x s A i o → 1 ≤ n → n ≤ 64 → A < 2 ^ K → o ≤ i + 65535 → i + K ≤ o + 65536
+-- A rounding is given where the exponent is working, and one more too.
+pub given-rounded : (mode : Mode) (n : ℕ) (x : Fraction) → IsFraction x → 1 ≤ n → 0 < natAbs (x .numerator) → isWorkingExponent (exponent x) ≡ true → isWorkingExponent (sucℤ (exponent x)) ≡ true
+    → rounded (byMode mode n) x ≡ given (round mode n x)
+unfolding rounded
+given-rounded mode n x x0 n0 some low high =
+    let r = round-placed mode n x x0 n0 some in
+    ap checked (r .1) ∙ checked-placed (isNegative (x .numerator)) (exponent x) n (r .0) low high ∙ ap given (sym (r .1))
+
+-- Any A of K bits at most, zero too: the exponent is working whatever A is.
+pub given-scaled : (mode : Mode) (n K : ℕ) {x : Fraction} {s : Bool} {A i o : ℕ} → IsScaled x s A i o → 1 ≤ n → n ≤ 64 → A < 2 ^ K → o ≤ i + bias → i + K ≤ o + 65536
     → rounded (byMode mode n) x ≡ given (round mode n x)
 unfolding rounded round checked
 given-scaled mode n K {A = zero} h n0 n1 small low high = rw (scaled-none h refl)
 given-scaled mode n K {x} {A = suc m} h n0 n1 small low high =
     let bit = top-bit (suc m) (omega arith) in
     let both = scaled-working h (bit .0) (bit .1) (bit .2) K small low high in
-    let r = round-placed mode n x (h .positive) n0 (scaled-some h (omega arith)) in
-    ap checked (r .1) ∙ checked-placed (isNegative (x .numerator)) (exponent x) n (r .0) (both .0) (both .1) ∙ ap given (sym (r .1))
+    given-rounded mode n x (h .positive) n0 (scaled-some h (omega arith)) (both .0) (both .1)
 
 -- the cross products of the whole number with its ratio, and of the rounding with its units
 whole-cross : (a b A p c k w u v : ℕ) → 0 < w → a * w ≡ A * k * b → u * w ≡ p * c * k * v → a * p * v * c ≡ A * (b * u)
@@ -133,10 +141,10 @@ module _ (mode : Mode) (n : ℕ) {x : Fraction} {s : Bool} {A i o : ℕ} (h : Is
   own-sign = scaled-sign h (lt-of-lt-of-le (pow-pos (n - 1 + d)) t0)
 
   scaled-whole : whole mode n x ≡ wholeOf mode s A (2 ^ d)
-  unfolding scaledNumerator scaledDenominator IsFraction
+  unfolding scaledNumerator scaledDenominator
   scaled-whole =
       rw own-sign
-      (whole-alone (top n x) (bottom x) A (2 ^ d) (mul-pos (h .positive) (up-pos (exponent x))) (pow-pos d)
+      (whole-alone (numeratorAt n x) (denominatorAt x) A (2 ^ d) (scaled-positive (exponent x) (x .denominator) (h .positive)) (pow-pos d)
       (whole-cross (natAbs (x .numerator)) (x .denominator) A (2 ^ (n - 1)) (2 ^ d) (2 ^ i) (2 ^ o) (up (exponent x)) (down (exponent x)) (pow-pos o)
       (scaled-size h) scaled-unit)
       mode s)
@@ -168,8 +176,7 @@ pub record IsRounded (mode : Mode) (n : ℕ) (x : Fraction) (s : Bool) (A i o : 
 
 -- A has K bits at most; the exponent is then working whatever A is.
 pub rounded-scaled : (mode : Mode) (n K : ℕ) {x : Fraction} {s : Bool} {A i o : ℕ} → IsScaled x s A i o → 1 ≤ n → n ≤ 64 → 2 ^ (n - 1) ≤ A → A < 2 ^ K
-    → o ≤ i + 65535 → i + K ≤ o + 65536 → IsRounded mode n x s A i o
-unfolding precisionOf
+    → o ≤ i + bias → i + K ≤ o + 65536 → IsRounded mode n x s A i o
 rounded-scaled mode n K {x} {s} {A} {i} {o} h n0 n1 least small low high = go (top-bit A (lt-of-lt-of-le (pow-pos (n - 1)) least))
   where
     holds : rounded (byMode mode n) x ≡ given (round mode n x)

@@ -6,27 +6,26 @@ use native.Mathlib.Nat.{le-refl, mul-le-mul-right}
 use native.Mathlib.Omega.{arith}
 use lib.IntN.{natAbs}
 use lib.Pow.{pow-add, pow-mono}
-use Rattle.numbers.specs.Fraction.{Fraction, IsFraction, Equal, AtMost, Below, value, sum, product, quotient, magnitude}
+use Rattle.numbers.specs.Fraction.{Fraction, IsFraction, Equal, AtMost, Below, value, sum, product, quotient, magnitude, scaled}
 use Rattle.numbers.specs.Grid.{Alike, RoundedAlike}
-use Rattle.numbers.specs.Rounding.{round, byMode, precisionOf}
+use Rattle.numbers.specs.Rounding.{round, byMode}
 use Rattle.numbers.specs.Answer.{given, rounded}
 use Rattle.numbers.specs.declared.number.Number.{Number}
 use Rattle.numbers.specs.declared.task.Mode.{Mode}
 use Rattle.numbers.specs.declared.task.Mode.the-variants.{Sticky}
-use Rattle.numbers.proofs.Laws.Alike.{alike-rounds, alike-coarser}
+use Rattle.numbers.proofs.Laws.Alike.{alike-rounds, alike-coarser, alike-equal, alike-back, alike-through, alike-shift, alike-zero, short-alike}
 use Rattle.numbers.proofs.Laws.Cell.{one-outcome}
 use Rattle.numbers.proofs.Laws.Fractions.{sum-fraction, sum-swap, quotient-fraction, quotient-zero}
-use Rattle.numbers.proofs.Laws.Rounded.{value-fraction}
 use Rattle.numbers.proofs.Laws.Value.{zero-alike}
-use Rattle.steps.proofs.Laws.Alike.{alike-equal, alike-back, alike-through, alike-shift, alike-zero, short-alike}
-use Rattle.steps.proofs.Laws.Multiples.{IsMultiple, multiple-of, multiple-finer, multiple-sum, multiple-below, multiple-given, multiple-rounded}
-use Rattle.steps.proofs.Laws.Pairs.{quotient-next}
-use Rattle.division.proofs.Laws.Scaled.{scaled, below-scaled, reaches-scaled}
-use Rattle.steps.proofs.Laws.Sticky.{sticky-alike}
-use Rattle.steps.proofs.Laws.Terms.{IsDigit, IsLast}
+use Rattle.numbers.proofs.Laws.Multiples.{IsMultiple, multiple-of, multiple-finer, multiple-sum, multiple-below, multiple-given, multiple-rounded}
+use Rattle.numbers.proofs.Laws.Pairs.{quotient-next}
+use Rattle.numbers.proofs.Laws.Scaled.{below-scaled, reaches-scaled, value-fraction}
+use Rattle.numbers.proofs.Laws.Sticky.{sticky-alike}
+use Rattle.division.proofs.Laws.Range.{lowestAdmissible, highestAdmissible}
+use Rattle.steps.proofs.Laws.Terms.{IsDigit, IsLast, lowestAfter}
 
 -- the digits of p / d on their grids, and the remainders between them
-pub record HasDigits (b : ℕ) (p d q0 q1 q2 q3 : Number) : Type 0 where
+pub record HasFourDigits (b : ℕ) (p d q0 q1 q2 q3 : Number) : Type 0 where
   pub p1 : Number
   pub p2 : Number
   pub p3 : Number
@@ -45,8 +44,8 @@ pub record HasDigits (b : ℕ) (p d q0 q1 q2 q3 : Number) : Type 0 where
   pub finer-1 : g1 + 23 ≤ g0
   pub finer-2 : g2 + 23 ≤ g1
   pub finer-3 : g3 + 23 ≤ g2
-  pub highest : g0 ≤ 82000
-  pub lowest : 48000 ≤ g3
+  pub highest : g0 ≤ highestAdmissible + 65
+  pub lowest : lowestAfter 3 ≤ g3
   pub below-unit : Below (magnitude (quotient (value p3) (value d))) (scaled false 1 g2 (b + 64))
   pub last : IsLast d p3 q3
   pub reaches : 0 < natAbs (value p .numerator) → AtMost (scaled false (2 ^ 23) g0 (b + 64)) (magnitude (quotient (value p) (value d)))
@@ -69,7 +68,7 @@ record Stands (i o j p bits : ℕ) (x z : Fraction) : Type 0 where
 
 stands-coarser : {i o j p bits : ℕ} {x z : Fraction} (k : ℕ) → i ≤ k → Stands i o j p bits x z → Stands k o j p bits x z
 stands-coarser {i} {o} {x = x} {z = z} k h r =
-    record { multiple = r .multiple; alike = rw (let e : k - i + i ≡ k = omega arith in e) at (alike-coarser (k - i) i o x z (r .alike)) }
+    record { multiple = r .multiple; alike = alike-coarser i o k o x z (omega arith) (r .alike) }
 
 -- its sticky rounding stands for z too
 stands-sticky : {i o j p bits : ℕ} {x z : Fraction} → Stands i o j p bits x z → bits + j + o < 63 + i + p → Stands i o j (p + 63) (bits + 64) (value (round Sticky 64 x)) z
@@ -77,7 +76,7 @@ stands-sticky {i} {o} {x = x} {z} r small = record {
   multiple = multiple-rounded Sticky 64 (r .multiple) (omega arith) (omega arith);
   alike =
       alike-through i o (value (round Sticky 64 x)) x z
-      (sticky-alike i o 64 x (r .multiple .positive) (omega arith) (omega arith) (multiple-below 63 i o (r .multiple) small))
+      (sticky-alike i o 64 x (r .multiple .amount .positive) (omega arith) (omega arith) (multiple-below 63 i o (r .multiple) small))
       (r .alike);
 }
 
@@ -89,7 +88,7 @@ stands-sum {i} {o} {j} {p} {bits} g c x y d r q fine level enough divisor step d
   multiple = multiple-sum (multiple-finer 0 (rest .multiple) (omega arith) (omega arith)) (multiple-finer c digit level (omega arith));
   alike =
       alike-through i o (sum (value r) (value q)) (sum left (value q)) whole
-      (alike-shift i o (value r) left (value q) (on-grid .whole) (value-fraction q) (on-grid .amount) (rest .alike))
+      (alike-shift i o (value r) left (value q) (on-grid .negative) (on-grid .whole) (value-fraction q) (on-grid .amount .amount) (rest .alike))
       (alike-back i o whole (sum left (value q))
       (alike-equal i o whole (sum left (value q)) (quotient-fraction (value x) (value d) (value-fraction x) divisor)
       (sum-fraction left (value q) (quotient-fraction (value y) (value d) (value-fraction y) divisor) (value-fraction q))
@@ -121,7 +120,7 @@ together r q = round Sticky 64 (sum (value r) (value q))
 
 -- ---- the three sums
 
-module _ {b : ℕ} {p d q0 q1 q2 q3 : Number} (h : HasDigits b p d q0 q1 q2 q3) where
+module _ {b : ℕ} {p d q0 q1 q2 q3 : Number} (h : HasFourDigits b p d q0 q1 q2 q3) where
   whole-fraction : (x : Number) → IsFraction (quotient (value x) (value d))
   whole-fraction x = quotient-fraction (value x) (value d) (value-fraction x) (h .divisor)
 
@@ -169,16 +168,15 @@ module _ {b : ℕ} {p d q0 q1 q2 q3 : Number} (h : HasDigits b p d q0 q1 q2 q3) 
       alike = alike-back (h .g1 - 23) (b + 64) y x (first-total .alike)
 
       go : (a : ℕ) → (0 < a → AtMost (scaled false (2 ^ 23) (h .g0) (b + 64)) (magnitude x)) → natAbs (value p .numerator) ≡ a → RoundedAlike n x y
-      go zero reaches e = let none = quotient-zero (value p) (value d) e in zero-alike n x y none (alike-zero (h .g1 - 23) (b + 64) x y alike none)
+      go zero reaches e = let none = quotient-zero (value p) (value d) e in zero-alike n x y none (alike-zero (h .g1 - 23) (b + 64) x y (whole-fraction p) (first-total .multiple .amount .positive) alike none)
       go (suc a) reaches e =
-          alike-rounds n x y (h .g1 - 23) (b + 64) n0 (whole-fraction p) (first-total .multiple .positive)
+          alike-rounds n x y (h .g1 - 23) (b + 64) n0 (whole-fraction p) (first-total .multiple .amount .positive)
           (fine-enough n (h .g1 - 23) (h .g0) (x .denominator) (natAbs (x .numerator) * 2 ^ (b + 64)) (omega arith)
           (reaches-scaled x (2 ^ 23) (h .g0) (b + 64) .0 (reaches (omega arith))))
           alike
 
   -- The digits' sum, in three steps, is given and is rounded as p / d, in every mode and precision.
-  pub digits-sum : 49089 ≤ b → b ≤ 81919 → HasSum p d q0 q1 q2 q3
-  unfolding precisionOf
+  pub digits-sum : lowestAdmissible ≤ b → b ≤ highestAdmissible → HasSum p d q0 q1 q2 q3
   digits-sum low high = record {
     qq2 = together q3 q2;
     qq1 = together (together q3 q2) q1;

@@ -11,35 +11,38 @@ use lib.Ieee.Fits.{down-pos, up-pos}
 use lib.IntN.{ℤ, pos, natAbs, _-ℤ_}
 use lib.Pow.{pow-add}
 use lib.Signed.{ltZ-yes}
-use Rattle.numbers.specs.Fraction.{IsFraction, Below, signed, value, sum, difference, product, magnitude}
+use Rattle.numbers.specs.Biased.{bias, origin}
+use Rattle.numbers.specs.Fraction.{IsFraction, Below, signed, value, sum, difference, product, magnitude, IsScaled}
 use Rattle.numbers.specs.declared.number.Number.{Number}
 use Rattle.numbers.specs.declared.number.Number.the-variants.{Zero, Finite}
-use Rattle.numbers.proofs.Laws.Fractions.{fraction, signed-equal}
+use Rattle.numbers.proofs.Laws.Pairs.{fraction}
+use Rattle.numbers.proofs.Laws.Splits.{signed-product, abs-difference}
+use Rattle.numbers.proofs.Laws.Fractions.{signed-equal}
 use Rattle.numbers.proofs.Laws.Ratio.{gap}
-use Rattle.numbers.proofs.Laws.Rounded.{value-fraction}
-use Rattle.numbers.proofs.Laws.Signs.{negative-product, unlike-same, abs-difference}
+use Rattle.numbers.proofs.Laws.Signs.{unlike-same}
+use Rattle.numbers.proofs.Laws.Scaled.{origin-is, value-fraction}
+use Rattle.numbers.proofs.Laws.Tasks.{IsClaimed, claimed-scaled}
+use Rattle.numbers.proofs.Laws.Powers.{power-sum}
 use Rattle.division.specs.Seed.{indexOf}
+use Rattle.division.proofs.Laws.Seeds.{entryFor, entry-range, index-below, seed-close}
+use Rattle.division.proofs.Laws.Range.{InRange, lowestAdmissible}
 use Rattle.steps.specs.Steps.{seed}
 use Rattle.steps.specs.Theorem.{IsNearOne}
-use Rattle.division.proofs.Laws.Seeds.{entryFor, entry-range, index-below, seed-close}
-use Rattle.division.proofs.Laws.Scaled.{IsScaled, origin, origin-is}
-use Rattle.steps.proofs.Laws.Tasks.{IsClaimed, claimed-scaled}
-use Rattle.division.proofs.Laws.Range.{InRange}
 
 -- ---- step 1
 
 pub seed-fraction : (x : Number) → IsFraction (seed x)
-unfolding IsFraction seed
+unfolding seed
 seed-fraction Zero = value-fraction Zero
 seed-fraction (Finite s e S) = mul-pos (lit< tt) (up-pos e)
 
-pub seed-scaled : (s : Bool) (b D : ℕ) → IsScaled (seed (Finite s (minus b 65535) D)) s (entryFor D) origin (b + 71)
+pub seed-scaled : (s : Bool) (b D : ℕ) → IsScaled (seed (Finite s (minus b bias) D)) s (entryFor D) origin (b + 71)
 unfolding seed
 seed-scaled s b D = record {
-  positive = seed-fraction (Finite s (minus b 65535) D);
+  positive = seed-fraction (Finite s (minus b bias) D);
   amount =
-      signed-equal s (entryFor D * down (minus b 65535)) (256 * up (minus b 65535)) (entryFor D * 2 ^ origin) (2 ^ (b + 71))
-      (on-grid (entryFor D) 65535 origin origin-is);
+      signed-equal s (entryFor D * down (minus b bias)) (256 * up (minus b bias)) (entryFor D * 2 ^ origin) (2 ^ (b + 71))
+      (on-grid (entryFor D) bias origin origin-is);
 }
   where
     on-grid : (T o l : ℕ) → l ≡ o + 63 → T * down (minus b o) * 2 ^ (b + 71) ≡ T * 2 ^ l * (256 * up (minus b o))
@@ -48,11 +51,11 @@ seed-scaled s b D = record {
           arith,
           ap (λ (n : ℕ). n * 2 ^ 71) (minus-val T b o),
           ap (λ (n : ℕ). T * down (minus b o) * n) (pow-add 2 b 71),
-          ap (λ (n : ℕ). T * (256 * up (minus b o)) * n) (ap (λ (n : ℕ). 2 ^ n) e ∙ pow-add 2 o 63),
+          ap (λ (n : ℕ). T * (256 * up (minus b o)) * n) (power-sum _ o 63 e),
         )
 
 -- The seed is exact in eight bits.
-pub seed-step : (s : Bool) (b D : ℕ) → InRange 49089 b D → IsClaimed 8 (seed (Finite s (minus b 65535) D)) s (entryFor D) origin (b + 71)
+pub seed-step : (s : Bool) (b D : ℕ) → InRange lowestAdmissible b D → IsClaimed 8 (seed (Finite s (minus b bias) D)) s (entryFor D) origin (b + 71)
 seed-step s b D range =
     claimed-scaled 8 (seed-scaled s b D) (lit≤ tt) (lit≤ tt) (entry-range (indexOf D) (index-below D) .1) (omega (arith, origin-is)) (omega (arith, origin-is))
 
@@ -70,7 +73,7 @@ seed-product : (s : Bool) (e : ℤ) (S : ℕ)
 unfolding seed value product
 seed-product s e S =
     ap (λ (z : ℤ). fraction z (256 * up e * (2 ^ 63 * down e)))
-    (negative-product s s (entryFor S * down e) (S * up e) ∙ ap (λ (t : Bool). signed t (entryFor S * down e * (S * up e))) (unlike-same s))
+    (signed-product s s (entryFor S * down e) (S * up e) ∙ ap (λ (t : Bool). signed t (entryFor S * down e * (S * up e))) (unlike-same s))
 
 -- "All 128 entries satisfy: seed × d differs from 1 by less than 2^−8 + 2^−9."
 pub seed-rule : (s : Bool) (e : ℤ) (S : ℕ) → 2 ^ 63 ≤ S → S < 2 ^ 64 → IsNearOne (product (seed (Finite s e S)) (value (Finite s e S)))

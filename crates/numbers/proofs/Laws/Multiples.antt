@@ -1,5 +1,5 @@
 -- Fractions that are a multiple of a grid, of so many bits: on a finer grid, in a sum, and rounded.
-use mathlib.Core.Path.{_≡_, refl, sym, ap, _∙_}
+use mathlib.Core.Path.{_≡_, refl, ap}
 use mathlib.Core.Bool.{Bool, false}
 use Prim.Native.Nat.{ℕ, zero, suc, _+_, _-_, _*_, _^_, _≤_, _<_}
 use native.Mathlib.Nat.{le-trans, mul-le-mul-right, mul-lt-mul-of-pos-right, lt-of-mul-lt-mul-right, le-of-mul-le-mul-right, eq-of-mul-eq-mul-right, mul-pos, pow-succ'}
@@ -7,93 +7,48 @@ use native.Mathlib.Omega.{arith}
 use lib.Dec.{ltb→lt}
 use lib.Ieee.{up, down}
 use lib.Ieee.Fits.{down-pos}
-use lib.IntN.{ℤ, pos, natAbs, _+ℤ_, _*ℤ_}
+use lib.IntN.{natAbs}
 use lib.Pow.{pow-add, pow-pos, pow-mono, pow-lt}
-use Rattle.numbers.specs.Fraction.{Fraction, IsFraction, Equal, Below, signed, value, sum, magnitude, times}
-use Rattle.numbers.specs.Grid.{multiple}
-use Rattle.numbers.specs.Rounding.{isNegative, round, byMode}
+use Rattle.numbers.specs.Biased.{bias}
+use Rattle.numbers.specs.Fraction.{Fraction, IsFraction, Below, value, sum, magnitude, times, isNegative, IsScaled}
+use Rattle.numbers.specs.Rounding.{round, byMode}
 use Rattle.numbers.specs.Answer.{given, rounded}
 use Rattle.numbers.specs.declared.number.Number.{Number}
 use Rattle.numbers.specs.declared.task.Mode.{Mode}
 use Rattle.numbers.proofs.Laws.Bounds.{close-above}
 use Rattle.numbers.proofs.Laws.Exponent.{exponent-below}
-use Rattle.numbers.proofs.Laws.Fractions.{fraction, times-times, sum-times, sum-equal, sum-fraction}
 use Rattle.numbers.proofs.Laws.Powers.{word-parts, power-product, up-power, down-power, powers-divide}
-use Rattle.numbers.proofs.Laws.Rounded.{value-fraction, IsUnits, exponent, whole, round-units}
-use Rattle.numbers.proofs.Laws.Signs.{abs-signed, signed-abs, signed-times}
-use Rattle.numbers.proofs.Laws.Value.{equal-through}
-use Rattle.steps.proofs.Laws.Pairs.{above, below, sum-gap, most-gap, both-parts}
-use Rattle.division.proofs.Laws.Scaled.{scaled, IsScaled, zero-value, zero-scaled, signed-scaled, finer, scaled-size}
-use Rattle.steps.proofs.Laws.Tasks.{given-scaled}
+use Rattle.numbers.proofs.Laws.Rounded.{IsUnits, exponent, whole, round-units}
+use Rattle.numbers.proofs.Laws.Scaled.{zero-value, zero-scaled, signed-scaled, finer, scaled-size, value-fraction}
+use Rattle.numbers.proofs.Laws.Tasks.{given-scaled}
+use Rattle.numbers.proofs.Laws.Exact.{sum-scaled}
 
 -- x is a whole number of grids 2^i / 2^o, 2^bits of them at most
 pub record IsMultiple (bits i o : ℕ) (x : Fraction) : Type 0 where
-  pub positive : IsFraction x
-  pub whole : ℤ
-  pub most : natAbs whole ≤ 2 ^ bits
-  pub amount : Equal x (multiple whole i o)
-
--- ± N × 2^i / 2^o is one, and each is such a number
-scaled-multiple : (s : Bool) (N i o : ℕ) → scaled s N i o ≡ multiple (signed s N) i o
-unfolding multiple
-scaled-multiple s N i o = ap (λ (z : ℤ). fraction z (2 ^ o)) (sym (signed-times s N (2 ^ i)))
+  pub negative : Bool
+  pub whole : ℕ
+  pub most : whole ≤ 2 ^ bits
+  pub amount : IsScaled x negative whole i o
 
 pub multiple-of : {bits : ℕ} {x : Fraction} {s : Bool} {N i o : ℕ} → IsScaled x s N i o → N ≤ 2 ^ bits → IsMultiple bits i o x
-multiple-of {s = s} {N} {i} {o} h most =
-    record { positive = h .positive; whole = signed s N; most = rw (abs-signed s N) most; amount = rw (scaled-multiple s N i o) at (h .amount) }
-
-multiple-scaled : {bits i o : ℕ} {x : Fraction} (h : IsMultiple bits i o x) → IsScaled x (isNegative (h .whole)) (natAbs (h .whole)) i o
-multiple-scaled {i = i} {o} h =
-    record { positive = h .positive; amount = rw (scaled-multiple (isNegative (h .whole)) (natAbs (h .whole)) i o, signed-abs (h .whole)) (h .amount) }
+multiple-of {s = s} {N} h most = record { negative = s; whole = N; most = most; amount = h }
 
 -- ---- on a finer grid, and in a sum
 
 -- A multiple of a grid is one of a grid that is 2^c times finer, with c bits more.
 pub multiple-finer : (c : ℕ) {bits more i j o p : ℕ} {x : Fraction} → IsMultiple bits i o x → i + p ≡ c + j + o → bits + c ≤ more → IsMultiple more j p x
 multiple-finer c {bits} h level enough =
-    multiple-of (finer (multiple-scaled h) c level) (le-trans (rw (pow-add 2 bits c) (mul-le-mul-right (2 ^ c) (h .most))) (pow-mono enough))
-
-natAbs-sum : (z w : ℤ) → natAbs (z +ℤ w) ≤ natAbs z + natAbs w
-natAbs-sum z w =
-    omega (
-      arith,
-      most-gap (z +ℤ w) (above z + above w) (below z + below w) (sum-gap z w (above z) (below z) (above w) (below w) (omega arith) (omega arith)),
-      both-parts z,
-      both-parts w,
-    )
-
-multiple-fraction : (k : ℤ) (i o : ℕ) → IsFraction (multiple k i o)
-unfolding IsFraction multiple
-multiple-fraction k i o = pow-pos o
-
-sum-same : (k l : ℤ) (i o : ℕ) → Equal (sum (multiple k i o) (multiple l i o)) (multiple (k +ℤ l) i o)
-unfolding Equal sum multiple
-sum-same k l i o =
-    ap (λ (z : ℤ). z *ℤ pos (2 ^ o)) (sym (sum-times (k *ℤ pos (2 ^ i)) (l *ℤ pos (2 ^ i)) (2 ^ o)) ∙ ap (λ (z : ℤ). z *ℤ pos (2 ^ o)) (sym (sum-times k l (2 ^ i))))
-    ∙ times-times ((k +ℤ l) *ℤ pos (2 ^ i)) (2 ^ o) (2 ^ o)
+    multiple-of (finer (h .amount) c level) (le-trans (rw (pow-add 2 bits c) (mul-le-mul-right (2 ^ c) (h .most))) (pow-mono enough))
 
 -- The sum of two has one bit more.
 pub multiple-sum : {bits i o : ℕ} {x y : Fraction} → IsMultiple bits i o x → IsMultiple bits i o y → IsMultiple (suc bits) i o (sum x y)
-multiple-sum {bits} {i} {o} {x} {y} h k =
-    let a = multiple (h .whole) i o in
-    let b = multiple (k .whole) i o in
-    let c = multiple (h .whole +ℤ k .whole) i o in
-    let total = sum-fraction x y (h .positive) (k .positive) in
-    record {
-      positive = total;
-      whole = h .whole +ℤ k .whole;
-      most = omega (arith, natAbs-sum (h .whole) (k .whole), h .most, k .most, pow-succ' 2 bits);
-      amount =
-          equal-through (sum x y) (sum a b) c total (sum-fraction a b (multiple-fraction (h .whole) i o) (multiple-fraction (k .whole) i o))
-          (multiple-fraction (h .whole +ℤ k .whole) i o) (sum-equal x y a b (h .amount) (k .amount)) (sum-same (h .whole) (k .whole) i o);
-    }
+multiple-sum {bits} h k = let t = sum-scaled (h .amount) (k .amount) in multiple-of (t .3) (omega (arith, t .2, h .most, k .most, pow-succ' 2 bits))
 
 -- It is below 2^n grids of another kind, where its bits say so.
 pub multiple-below : (n j p : ℕ) {bits i o : ℕ} {x : Fraction} → IsMultiple bits i o x → bits + i + p < n + j + o → natAbs (x .numerator) * 2 ^ p < 2 ^ n * (x .denominator * 2 ^ j)
-unfolding IsFraction
 multiple-below n j p {bits} {i} {o} {x} h less =
-    bounded (natAbs (x .numerator)) (x .denominator) (natAbs (h .whole)) (2 ^ bits) (2 ^ i) (2 ^ p) (2 ^ n) (2 ^ j) (2 ^ o) (h .positive)
-    (scaled-size (multiple-scaled h)) (h .most)
+    bounded (natAbs (x .numerator)) (x .denominator) (h .whole) (2 ^ bits) (2 ^ i) (2 ^ p) (2 ^ n) (2 ^ j) (2 ^ o) (h .amount .positive)
+    (scaled-size (h .amount)) (h .most)
     (rw (← pow-add 2 bits i, ← pow-add 2 (bits + i) p, ← pow-add 2 n j, ← pow-add 2 (n + j) o) (pow-lt less))
   where
     bounded : (X d K B I P N J O : ℕ) → 0 < d → X * O ≡ K * I * d → K ≤ B → B * I * P < N * J * O → X * P < N * (d * J)
@@ -103,10 +58,10 @@ multiple-below n j p {bits} {i} {o} {x} h less =
 -- ---- its rounding
 
 -- Its rounding is given, where the exponent is working whatever the multiple.
-pub multiple-given : (mode : Mode) (n : ℕ) {bits i o : ℕ} {x : Fraction} → IsMultiple bits i o x → 1 ≤ n → n ≤ 64 → o ≤ i + 65535 → i + bits < o + 65536
+pub multiple-given : (mode : Mode) (n : ℕ) {bits i o : ℕ} {x : Fraction} → IsMultiple bits i o x → 1 ≤ n → n ≤ 64 → o ≤ i + bias → i + bits < o + 65536
     → rounded (byMode mode n) x ≡ given (round mode n x)
 multiple-given mode n {bits} h n0 n1 low high =
-    given-scaled mode n (suc bits) (multiple-scaled h) n0 n1 (omega (arith, h .most, pow-succ' 2 bits, pow-pos bits)) low (omega arith)
+    given-scaled mode n (suc bits) (h .amount) n0 n1 (omega (arith, h .most, pow-succ' 2 bits, pow-pos bits)) low (omega arith)
 
 -- the rounding Y / f of X / d is q units u / (p v), and u / v is t grids I / O
 module _ (X d K I O Y f q u v p r w t : ℕ) (d0 : 0 < d) (f0 : 0 < f) (I0 : 0 < I) (v0 : 0 < v) (size : X * O ≡ K * I * d) (units : Y * (p * v) ≡ q * u * f) (word : p * r ≡ w)
@@ -144,7 +99,6 @@ zero-rounded mode n x e = rw e zero-value
 
 -- A rounding to n bits, 64 at most, is a multiple of a grid that is 2^63 times finer.
 pub multiple-rounded : (mode : Mode) (n : ℕ) {bits i o : ℕ} {x : Fraction} → IsMultiple bits i o x → 1 ≤ n → n ≤ 64 → IsMultiple (bits + 64) i (o + 63) (value (round mode n x))
-unfolding IsFraction
 multiple-rounded mode n {bits} {i} {o} {x} h n0 n1 = go (natAbs (x .numerator)) refl
   where
     y : Number
@@ -157,7 +111,7 @@ multiple-rounded mode n {bits} {i} {o} {x} h n0 n1 = go (natAbs (x .numerator)) 
     d = x .denominator
 
     K : ℕ
-    K = natAbs (h .whole)
+    K = h .whole
 
     q : ℕ
     q = whole mode n x
@@ -169,13 +123,13 @@ multiple-rounded mode n {bits} {i} {o} {x} h n0 n1 = go (natAbs (x .numerator)) 
     v = down (exponent x)
 
     units : IsUnits y (isNegative (x .numerator)) n (exponent x) q
-    units = round-units mode n x (h .positive) n0 n1
+    units = round-units mode n x (h .amount .positive) n0 n1
 
     size : X * 2 ^ o ≡ K * 2 ^ i * d
-    size = scaled-size (multiple-scaled h)
+    size = scaled-size (h .amount)
 
     coarse : 0 < X → 2 ^ i * v < 2 * (u * 2 ^ o)
-    coarse some = grid-below-units X d K (2 ^ i) (2 ^ o) u v (h .positive) some (pow-pos o) size (exponent-below X d some (h .positive))
+    coarse some = grid-below-units X d K (2 ^ i) (2 ^ o) u v (h .amount .positive) some (pow-pos o) size (exponent-below X d some (h .amount .positive))
 
     some-rounded : 0 < X → IsMultiple (bits + 64) i (o + 63) (value y)
     some-rounded some =
@@ -187,12 +141,12 @@ multiple-rounded mode n {bits} {i} {o} {x} h n0 n1 = go (natAbs (x .numerator)) 
             multiple-of {N = q * t * 2 ^ (64 - n)}
             (signed-scaled (value-fraction y) (units .sign)
             (rw (pow-add 2 o 63)
-            (rounded-amount X d K (2 ^ i) (2 ^ o) (natAbs (value y .numerator)) (value y .denominator) q u v (2 ^ (n - 1)) (2 ^ (64 - n)) (2 ^ 63) t (h .positive)
+            (rounded-amount X d K (2 ^ i) (2 ^ o) (natAbs (value y .numerator)) (value y .denominator) q u v (2 ^ (n - 1)) (2 ^ (64 - n)) (2 ^ 63) t (h .amount .positive)
             (value-fraction y) (pow-pos i) (down-pos (exponent x)) size (units .ratio) (word-parts n n0 n1) grid)))
             (omega (
               arith,
-              rounded-most X d K (2 ^ i) (2 ^ o) (natAbs (value y .numerator)) (value y .denominator) q u v (2 ^ (n - 1)) (2 ^ (64 - n)) (2 ^ 63) t (h .positive)
-                  (value-fraction y) (pow-pos i) (down-pos (exponent x)) size (units .ratio) (word-parts n n0 n1) grid (twice-below mode n x (h .positive) n0 n1 some),
+              rounded-most X d K (2 ^ i) (2 ^ o) (natAbs (value y .numerator)) (value y .denominator) q u v (2 ^ (n - 1)) (2 ^ (64 - n)) (2 ^ 63) t (h .amount .positive)
+                  (value-fraction y) (pow-pos i) (down-pos (exponent x)) size (units .ratio) (word-parts n n0 n1) grid (twice-below mode n x (h .amount .positive) n0 n1 some),
               h .most,
               pow-add 2 bits 64,
             ))

@@ -1,57 +1,60 @@
--- Fractions that are a whole number times a power of two, ± N × 2^i / 2^o: the value of a number is one, the same fraction stands on other grids, and its
--- magnitude and its sign are those of N.
+-- Fractions that are a whole number times a power of two, ± N × 2^i / 2^o: the value of a number is one, the same fraction stands on other grids, its magnitude
+-- is that of N, and its sign the one written unless N is 0.
 use mathlib.Core.Path.{_≡_, refl, sym, ap, _∙_}
 use mathlib.Core.Bool.{Bool, false}
 use mathlib.Core.Logic.{_↔_}
 use Prim.Native.Nat.{ℕ, _+_, _*_, _^_, _≤_, _<_}
-use native.Mathlib.Nat.{add-zero, eq-of-mul-eq-mul-right, lt-of-mul-lt-mul-right, mul-pos}
+use native.Mathlib.Nat.{eq-of-mul-eq-mul-right, lt-of-mul-lt-mul-right, mul-pos}
 use native.Mathlib.Omega.{arith}
-use lib.Dec.{ltb→lt, leb→le, lt→ltb, le→leb}
+use lib.Dec.{lit<, ltb→lt, leb→le, lt→ltb, le→leb}
 use lib.Ieee.{minus, up, down}
+use lib.Ieee.Digits.{minus-val}
+use lib.Ieee.Fits.{down-pos}
 use lib.IntN.{ℤ, pos, natAbs, zero-*ℤ, _*ℤ_}
 use lib.Pow.{pow-add, pow-pos}
 use lib.Signed.{leZ-yes, ltZ-yes}
-use Rattle.numbers.specs.Fraction.{Fraction, IsFraction, Equal, AtMost, Below, signed, value, magnitude}
-use Rattle.numbers.specs.Rounding.{isNegative}
+use Rattle.numbers.specs.Biased.{bias, origin}
+use Rattle.numbers.specs.Fraction.{IsScaled, scaled, Fraction, IsFraction, Equal, AtMost, Below, signed, value, magnitude, isNegative}
+use Rattle.numbers.specs.declared.number.Number.{Number}
 use Rattle.numbers.specs.declared.number.Number.the-variants.{Zero, Finite}
-use Rattle.numbers.proofs.Laws.Bias.{biased-power}
-use Rattle.numbers.proofs.Laws.Fractions.{signed-equal}
-use Rattle.numbers.proofs.Laws.Rounded.{value-fraction}
-use Rattle.numbers.proofs.Laws.Signs.{abs-signed, negative-signed, abs-zero, signed-zero, signed-times}
-use Rattle.numbers.proofs.Laws.Value.{equal-magnitudes, equal-signs, equal-back, equal-through}
-
--- ± N × 2^i / 2^o
-abbrev pub scaled : Bool → ℕ → ℕ → ℕ → Fraction
-scaled s N i o = record { numerator = signed s (N * 2 ^ i); denominator = 2 ^ o }
-
--- x is ± N × 2^i / 2^o
-pub record IsScaled (x : Fraction) (s : Bool) (N i o : ℕ) : Type 0 where
-  pub positive : IsFraction x
-  pub amount : Equal x (scaled s N i o)
+use Rattle.numbers.proofs.Laws.Fractions.{signed-equal, equal-magnitudes, equal-signs}
+use Rattle.numbers.proofs.Laws.Pairs.{equal-back, equal-through}
+use Rattle.numbers.proofs.Laws.Signs.{abs-signed, negative-signed, abs-zero, signed-zero}
+use Rattle.numbers.proofs.Laws.Splits.{signed-times}
+use Rattle.numbers.proofs.Laws.Powers.{power-sum}
 
 pub scaled-fraction : (s : Bool) (N i o : ℕ) → IsFraction (scaled s N i o)
-unfolding IsFraction
 scaled-fraction s N i o = pow-pos o
 
--- a number of biased exponent b is ± S × 2^b / 2^origin; kept as a name, so that 2^origin is not worked out
-unfoldable pub origin : ℕ
-origin = 65598
+pub scaled-own : (s : Bool) (N i o : ℕ) → IsScaled (scaled s N i o) s N i o
+unfolding Equal
+scaled-own s N i o = record { positive = pow-pos o; amount = refl }
 
-pub origin-is : origin ≡ 65598
+pub origin-is : origin ≡ bias + 63
 unfolding origin
 origin-is = refl
 
+-- the value of a number is a fraction
+pub value-fraction : (y : Number) → IsFraction (value y)
+unfolding value
+value-fraction Zero = lit< tt
+value-fraction (Finite s e S) = mul-pos (pow-pos 63) (down-pos e)
+
+-- S × 2^(E − o) over 2^t is S × 2^E over 2^l, where l is o + t
+biased-power : (S E o t l : ℕ) → l ≡ o + t → S * up (minus E o) * 2 ^ l ≡ S * 2 ^ E * (2 ^ t * down (minus E o))
+biased-power S E o t l e = omega (arith, ap (λ (n : ℕ). n * 2 ^ t) (minus-val S E o), ap (λ (n : ℕ). S * up (minus E o) * n) (power-sum l o t e))
+
 -- the value of a number, by its biased exponent
-pub working-scaled : (s : Bool) (b S : ℕ) → IsScaled (value (Finite s (minus b 65535) S)) s S b origin
+pub working-scaled : (s : Bool) (b S : ℕ) → IsScaled (value (Finite s (minus b bias) S)) s S b origin
 unfolding value
 working-scaled s b S = record {
-  positive = value-fraction (Finite s (minus b 65535) S);
+  positive = value-fraction (Finite s (minus b bias) S);
   amount =
-      signed-equal s (S * up (minus b 65535)) (2 ^ 63 * down (minus b 65535)) (S * 2 ^ b) (2 ^ origin)
-      (rw (add-zero b) at (biased-power S b 65535 0 63 origin origin-is));
+      signed-equal s (S * up (minus b bias)) (2 ^ 63 * down (minus b bias)) (S * 2 ^ b) (2 ^ origin)
+      (biased-power S b bias 63 origin origin-is);
 }
 
-pub finite-scaled : (s : Bool) (b S : ℕ) {e : ℤ} → e ≡ minus b 65535 → IsScaled (value (Finite s e S)) s S b origin
+pub finite-scaled : (s : Bool) (b S : ℕ) {e : ℤ} → e ≡ minus b bias → IsScaled (value (Finite s e S)) s S b origin
 finite-scaled s b S is = rw is (working-scaled s b S)
 
 -- zero is 0 on every grid
@@ -83,12 +86,16 @@ signed-scaled {x} {s} {N} {i} {o} x0 sign size = record {
 }
 
 -- N × 2^(i + p), in three powers
-same-power : (N i p k j o : ℕ) → i + p ≡ k + j + o → N * 2 ^ i * 2 ^ p ≡ N * 2 ^ k * 2 ^ j * 2 ^ o
+pub same-power : (N i p k j o : ℕ) → i + p ≡ k + j + o → N * 2 ^ i * 2 ^ p ≡ N * 2 ^ k * 2 ^ j * 2 ^ o
 same-power N i p k j o e =
     omega (
       arith,
-      ap (λ (n : ℕ). N * n) (sym (pow-add 2 i p) ∙ ap (λ (n : ℕ). 2 ^ n) e ∙ pow-add 2 (k + j) o ∙ ap (λ (n : ℕ). n * 2 ^ o) (pow-add 2 k j)),
+      ap (λ (n : ℕ). N * n) (sym (pow-add 2 i p) ∙ power-sum (i + p) (k + j) o e ∙ ap (λ (n : ℕ). n * 2 ^ o) (pow-add 2 k j)),
     )
+
+-- 2^i / 2^o depends on i − o alone
+pub same-grid : (s : Bool) (N i o j p : ℕ) → i + p ≡ j + o → Equal (scaled s N i o) (scaled s N j p)
+same-grid s N i o j p e = signed-equal s (N * 2 ^ i) (2 ^ o) (N * 2 ^ j) (2 ^ p) (omega (arith, same-power N i p 0 j o (omega arith)))
 
 module _ {x : Fraction} {s : Bool} {N i o : ℕ} (h : IsScaled x s N i o) where
   -- ---- on another grid
@@ -97,8 +104,7 @@ module _ {x : Fraction} {s : Bool} {N i o : ℕ} (h : IsScaled x s N i o) where
   regridded {M} {j} {p} e = record {
     positive = h .positive;
     amount =
-        equal-through x (scaled s N i o) (scaled s M j p) (h .positive) (scaled-fraction s N i o) (scaled-fraction s M j p) (h .amount)
-        (signed-equal s (N * 2 ^ i) (2 ^ o) (M * 2 ^ j) (2 ^ p) e);
+        equal-through x (scaled s N i o) (scaled s M j p) (scaled-fraction s N i o) (h .amount) (signed-equal s (N * 2 ^ i) (2 ^ o) (M * 2 ^ j) (2 ^ p) e);
   }
 
   -- i − o alone counts
@@ -115,7 +121,6 @@ module _ {x : Fraction} {s : Bool} {N i o : ℕ} (h : IsScaled x s N i o) where
   scaled-size = equal-magnitudes x (scaled s N i o) (h .amount) ∙ ap (λ (n : ℕ). n * x .denominator) (abs-signed s (N * 2 ^ i))
 
   pub scaled-some : 0 < N → 0 < natAbs (x .numerator)
-  unfolding IsFraction
   scaled-some N0 = lt-of-mul-lt-mul-right (2 ^ o) (omega (arith, scaled-size, mul-pos (mul-pos N0 (pow-pos i)) (h .positive)))
 
   pub scaled-none : N ≡ 0 → natAbs (x .numerator) ≡ 0
@@ -134,11 +139,10 @@ coarser {i = i} {o} {j} {p} N k h e = regridded h (sym (same-power N j o k i p (
 -- two fractions of one amount
 pub equal-scaled : {x y : Fraction} {s : Bool} {N i o : ℕ} → IsScaled x s N i o → IsScaled y s N i o → Equal x y
 equal-scaled {x} {y} {s} {N} {i} {o} h k =
-    equal-through x (scaled s N i o) y (h .positive) (scaled-fraction s N i o) (k .positive) (h .amount) (equal-back y (scaled s N i o) (k .amount))
+    equal-through x (scaled s N i o) y (scaled-fraction s N i o) (h .amount) (equal-back y (scaled s N i o) (k .amount))
 
 -- one fraction on two grids
 pub same-amount : {x : Fraction} {s t : Bool} {M N i j o p : ℕ} → IsScaled x s M i o → IsScaled x t N j p → M * 2 ^ i * 2 ^ p ≡ N * 2 ^ j * 2 ^ o
-unfolding IsFraction
 same-amount {x} {M = M} {N} {i} {j} {o} {p} h k =
     level (natAbs (x .numerator)) (x .denominator) (M * 2 ^ i) (N * 2 ^ j) (2 ^ o) (2 ^ p) (h .positive) (scaled-size h) (scaled-size k)
   where

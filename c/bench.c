@@ -1,8 +1,8 @@
 /*
  * CPU time of a call of the library, beside libgcc's binary128 and MPFR at 64 bits, on the same
  * operands. The first line printed names these two; then comes a line for each call: its name, and the
- * three times in nanoseconds with tabs before them. The results of the library and of MPFR must be the
- * same.
+ * three times in nanoseconds with tabs before them. The results of the library and of MPFR, and where
+ * they lie against the exact ones, must be the same.
  */
 #include "navehuro.h"
 
@@ -22,10 +22,12 @@ enum {
 
 typedef uint8_t bytes[NAVEHURO_NUMBER_BYTES];
 typedef uint32_t entry(const uint8_t *, size_t, const uint8_t *, size_t, uint32_t, uint32_t,
-                       uint8_t *, size_t);
+                       uint8_t *, size_t, int8_t *);
 typedef int mpfr_entry(mpfr_t, const mpfr_t, const mpfr_t, mpfr_rnd_t);
 
 static bytes first[PAIRS], second[PAIRS], result[PAIRS];
+static int8_t accuracy[PAIRS];
+static int mpfr_accuracy[PAIRS];
 static __float128 first_quad[PAIRS], second_quad[PAIRS], quad_result[PAIRS];
 static mpfr_t first_mpfr[PAIRS], second_mpfr[PAIRS], mpfr_result[PAIRS];
 
@@ -35,14 +37,14 @@ static mpfr_t first_mpfr[PAIRS], second_mpfr[PAIRS], mpfr_result[PAIRS];
 static void library(entry *call, uint32_t mode) {
     for (int i = 0; i < PAIRS; i++) {
         call(first[i], sizeof(bytes), second[i], sizeof(bytes), mode, PRECISION, result[i],
-             sizeof(bytes));
+             sizeof(bytes), &accuracy[i]);
         USED(result[i]);
     }
 }
 
 static void by_mpfr(mpfr_entry *call, mpfr_rnd_t mode) {
     for (int i = 0; i < PAIRS; i++) {
-        call(mpfr_result[i], first_mpfr[i], second_mpfr[i], mode);
+        mpfr_accuracy[i] = call(mpfr_result[i], first_mpfr[i], second_mpfr[i], mode);
         USED(mpfr_result[i]);
     }
 }
@@ -130,7 +132,7 @@ static void make_operand(bytes to, __float128 *quad, mpfr_t multiple) {
     mpfr_set_ld(multiple, negative ? -value : value, MPFR_RNDN);
 }
 
-/* Whether the last results of the library are those of MPFR, none of which is zero. */
+/* Whether the last results of the library are those of MPFR, none of which is zero, and lie alike. */
 static int is_same(void) {
     for (int i = 0; i < PAIRS; i++) {
         bytes wanted;
@@ -138,6 +140,7 @@ static int is_same(void) {
         long double part = fabsl(mpfr_get_ld_2exp(&exponent, mpfr_result[i], MPFR_RNDN));
         encode(wanted, mpfr_signbit(mpfr_result[i]), (uint64_t)ldexpl(part, 64), exponent - 1);
         if (memcmp(result[i], wanted, sizeof wanted) != 0) return 0;
+        if (accuracy[i] != (mpfr_accuracy[i] > 0) - (mpfr_accuracy[i] < 0)) return 0;
     }
     return 1;
 }

@@ -1,10 +1,11 @@
 /*
  * Holds the four functions of navehuro.h to MPFR and to exact integers of GMP, on random inputs and on
- * edges: the answer, the sixteen bytes of the result, and every byte around the three buffers, of the
- * operands and, after a refusal, of the result. Many buffers lie at a page that cannot be read, every
- * one of a wrong length right before it; some operands are the same or overlap. Prints how many inputs
- * each operation had by mode and by answer, each of the first differences, how the operands lay, and
- * last how many inputs and differences there were.
+ * edges: the answer, the sixteen bytes of the result, the accuracy, and every byte around the three
+ * buffers and the accuracy, of the operands and, after a refusal, of the result and the accuracy. Many
+ * buffers lie at a page that cannot be read, every one of a wrong length right before it; some operands
+ * are the same or overlap. Prints how many inputs each operation had by mode, by answer and by accuracy,
+ * each of the first differences, how the operands lay, and last how many inputs and differences there
+ * were.
  */
 #include "compare.h"
 
@@ -25,7 +26,8 @@ enum {
 static const uint64_t SEED = 5861996;
 
 typedef uint32_t entry(const uint8_t *a, size_t a_length, const uint8_t *b, size_t b_length,
-                       uint32_t mode, uint32_t precision, uint8_t *result, size_t result_length);
+                       uint32_t mode, uint32_t precision, uint8_t *result, size_t result_length,
+                       int8_t *accuracy);
 
 static entry *const entries[OPERATIONS] = {
     [ADD] = navehuro_add,
@@ -43,8 +45,11 @@ static const char *const mode_names[MODES] = {"trunc", "away", "near",  "sticky"
                                               "up",    "down", "exact", "other"};
 static const uint32_t codes[] = {0, 1, 2, 3, 4, 5, 7, 8, 9, 64};
 enum { CODES = sizeof codes / sizeof codes[0] };
+static const char *const accuracy_names[] = {"below", "at", "above"};
+enum { ACCURACIES = sizeof accuracy_names / sizeof accuracy_names[0] };
 
 static unsigned long mode_counts[OPERATIONS][MODES], code_counts[OPERATIONS][CODES];
+static unsigned long accuracy_counts[OPERATIONS][ACCURACIES];
 static unsigned long place_counts[PLACES], same, overlapping;
 static unsigned long inputs, differences;
 
@@ -60,7 +65,7 @@ static void print_operand(const char *name, const uint8_t *bytes, size_t length)
 }
 
 static void print_difference(const input *in, const answer *wanted, uint32_t found, const lent *a,
-                             const lent *b, lent *result) {
+                             const lent *b, lent *result, lent *accuracy) {
     printf("difference: %s, mode %" PRIu32 ", precision %" PRIu32 "\n",
            operation_names[in->operation], in->mode, in->precision);
     print_operand("a", in->a, in->a_length);
@@ -70,15 +75,20 @@ static void print_difference(const input *in, const answer *wanted, uint32_t fou
     printf("  answer wanted %" PRIu32 ", found %" PRIu32 "\n", wanted->code, found);
     print_bytes("result wanted", wanted_at(result), result->length);
     print_bytes("result found ", result->start, result->length);
+    print_bytes("accuracy wanted", wanted_at(accuracy), accuracy->length);
+    print_bytes("accuracy found ", accuracy->start, accuracy->length);
     if (!is_as_wanted(a)) printf("  a or bytes around it changed\n");
     if (!is_as_wanted(b)) printf("  b or bytes around it changed\n");
     if (!is_as_wanted(result)) printf("  the result or bytes around it are not as wanted\n");
+    if (!is_as_wanted(accuracy)) printf("  the accuracy or bytes around it are not as wanted\n");
 }
 
-static void count(const input *in, uint32_t code) {
+static void count(const input *in, const answer *wanted) {
     inputs++;
     mode_counts[in->operation][in->mode < MODES ? in->mode : OTHER_MODE]++;
-    for (size_t i = 0; i < CODES; i++) code_counts[in->operation][i] += codes[i] == code;
+    for (size_t i = 0; i < CODES; i++) code_counts[in->operation][i] += codes[i] == wanted->code;
+    if (wanted->code == NAVEHURO_WRITTEN)
+        accuracy_counts[in->operation][wanted->accuracy - NAVEHURO_RESULT_BELOW]++;
 }
 
 /* Where a buffer of this length lies: before a wall, if the length is wrong. */
@@ -121,20 +131,25 @@ static void lend_operands(input *in, lent *a, lent *b) {
 }
 
 static void compare(input *in) {
-    lent a, b, result;
+    lent a, b, result, accuracy;
     answer wanted;
     uint32_t found;
     lend_operands(in, &a, &b);
     lend(&result, RESULT_ROOM, place_for(in->result_length), in->result_length);
+    lend(&accuracy, ACCURACY_ROOM, (place)below(PLACES), sizeof wanted.accuracy);
     wanted = judge(in);
-    if (wanted.code == NAVEHURO_WRITTEN)
+    if (wanted.code == NAVEHURO_WRITTEN) {
         memcpy(wanted_at(&result), wanted.result, sizeof wanted.result);
+        memcpy(wanted_at(&accuracy), &wanted.accuracy, sizeof wanted.accuracy);
+    }
     found = entries[in->operation](a.start, in->a_length, b.start, in->b_length, in->mode,
-                                   in->precision, result.start, in->result_length);
-    count(in, wanted.code);
-    if (found == wanted.code && is_as_wanted(&a) && is_as_wanted(&b) && is_as_wanted(&result))
+                                   in->precision, result.start, in->result_length,
+                                   (int8_t *)accuracy.start);
+    count(in, &wanted);
+    if (found == wanted.code && is_as_wanted(&a) && is_as_wanted(&b) && is_as_wanted(&result) &&
+        is_as_wanted(&accuracy))
         return;
-    if (differences++ < SHOWN) print_difference(in, &wanted, found, &a, &b, &result);
+    if (differences++ < SHOWN) print_difference(in, &wanted, found, &a, &b, &result, &accuracy);
 }
 
 static void compare_operation(operation op) {
@@ -165,6 +180,12 @@ static void print_counts(void) {
         printf("\n%-10s", operation_names[op]);
         for (size_t i = 0; i < CODES; i++) printf("%8lu", code_counts[op][i]);
     }
+    printf("\n\n%-10s", "result");
+    for (size_t i = 0; i < ACCURACIES; i++) printf("%8s", accuracy_names[i]);
+    for (int op = 0; op < OPERATIONS; op++) {
+        printf("\n%-10s", operation_names[op]);
+        for (size_t i = 0; i < ACCURACIES; i++) printf("%8lu", accuracy_counts[op][i]);
+    }
     printf("\n\noperands before a wall %lu, behind one %lu, amid %lu; pairs that are the same %lu, "
            "overlap %lu\n\n",
            place_counts[BEFORE_WALL], place_counts[BEHIND_WALL], place_counts[AMID], same,
@@ -176,7 +197,7 @@ static int is_possible(operation op, uint32_t code) {
     return code != NAVEHURO_ZERO_DIVISOR;
 }
 
-/* Whether there were enough inputs, and some for each answer that an operation can give. */
+/* Whether there were enough inputs, and some for each answer and accuracy that an operation can give. */
 static int is_enough(void) {
     int enough = inputs >= LEAST_INPUTS;
     if (!enough) printf("fewer than %d inputs\n", LEAST_INPUTS);
@@ -184,6 +205,11 @@ static int is_enough(void) {
         for (size_t i = 0; i < CODES; i++) {
             if (code_counts[op][i] > 0 || !is_possible(op, codes[i])) continue;
             printf("no input of %s has the answer %" PRIu32 "\n", operation_names[op], codes[i]);
+            enough = 0;
+        }
+        for (size_t i = 0; i < ACCURACIES; i++) {
+            if (accuracy_counts[op][i] > 0) continue;
+            printf("no result of %s lies %s the exact one\n", operation_names[op], accuracy_names[i]);
             enough = 0;
         }
     }

@@ -27,10 +27,11 @@ typedef struct {
     size_t a_length, b_length, result_length;
 } input;
 
-/* The code of an answer, and the bytes written if that is NAVEHURO_WRITTEN. */
+/* The code of an answer, and what is written if that is NAVEHURO_WRITTEN: the bytes and the accuracy. */
 typedef struct {
     uint32_t code;
     uint8_t result[NAVEHURO_NUMBER_BYTES];
+    int8_t accuracy;
 } answer;
 
 /* The exponents and the last mode that an operation takes. */
@@ -71,7 +72,7 @@ typedef struct {
 } lent;
 
 /* The rooms for buffers, and where in its room a buffer lies. */
-typedef enum { FIRST_ROOM, SECOND_ROOM, RESULT_ROOM, ROOMS } room;
+typedef enum { FIRST_ROOM, SECOND_ROOM, RESULT_ROOM, ACCURACY_ROOM, ROOMS } room;
 typedef enum { BEFORE_WALL, BEHIND_WALL, AMID, PLACES } place;
 
 /*

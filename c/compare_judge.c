@@ -1,6 +1,7 @@
 /*
  * What a call must answer. The refusals are looked for in their order; then MPFR rounds in the five
- * modes that it has, and for sticky and the exact claim the exact value is worked out in integers.
+ * modes that it has, and its ternary value says where the result lies; for sticky and the exact claim
+ * the exact value is worked out in integers.
  */
 #include "compare.h"
 
@@ -50,9 +51,9 @@ static int is_fit(const number *x, operation op) {
             x->exponent <= greatest_exponent(op));
 }
 
-/* A refusal; or, with NAVEHURO_WRITTEN, the result zero. */
+/* A refusal; or, with NAVEHURO_WRITTEN, the result zero, which is exact. */
 static answer bare(uint32_t code) {
-    answer given = {code, {0}};
+    answer given = {code, {0}, NAVEHURO_RESULT_EXACT};
     return given;
 }
 
@@ -60,9 +61,10 @@ static int is_working(long exponent) {
     return exponent >= NAVEHURO_WORKING_MIN && exponent <= NAVEHURO_WORKING_MAX;
 }
 
-/* The answer with the integer of `precision` bits whose first bit counts 2^exponent. */
-static answer written(int negative, const mpz_t whole, uint32_t precision, long exponent) {
-    answer given = {NAVEHURO_WRITTEN, {0}};
+/* The answer with the integer of `precision` bits whose first bit counts 2^exponent, and where it lies. */
+static answer written(int negative, const mpz_t whole, uint32_t precision, long exponent,
+                      int accuracy) {
+    answer given = {NAVEHURO_WRITTEN, {0}, (int8_t)((accuracy > 0) - (accuracy < 0))};
     number x = {negative ? NAVEHURO_NEGATIVE : NAVEHURO_POSITIVE, (int32_t)exponent,
                 (uint64_t)mpz_get_ui(whole) << (WORD_BITS - precision)};
     encode(&x, given.result);
@@ -81,20 +83,21 @@ static answer by_mpfr(const input *in, const number *a, const number *b) {
     };
     mpfr_rnd_t mode = modes[in->mode];
     mpfr_exp_t exponent;
+    int ternary;
     put(first, a);
     put(second, b);
     mpfr_set_prec(rounded, in->precision);
     switch (in->operation) {
-    case ADD: mpfr_add(rounded, first, second, mode); break;
-    case SUBTRACT: mpfr_sub(rounded, first, second, mode); break;
-    case MULTIPLY: mpfr_mul(rounded, first, second, mode); break;
-    default: mpfr_div(rounded, first, second, mode); break;
+    case ADD: ternary = mpfr_add(rounded, first, second, mode); break;
+    case SUBTRACT: ternary = mpfr_sub(rounded, first, second, mode); break;
+    case MULTIPLY: ternary = mpfr_mul(rounded, first, second, mode); break;
+    default: ternary = mpfr_div(rounded, first, second, mode); break;
     }
     if (mpfr_zero_p(rounded)) return bare(NAVEHURO_WRITTEN);
     exponent = mpfr_get_exp(rounded) - 1; /* MPFR's significands lie below 1 */
     if (!is_working(exponent)) return bare(NAVEHURO_EXPONENT_OUTSIDE);
     mpfr_get_z_2exp(value, rounded);
-    return written(mpfr_signbit(rounded), value, in->precision, exponent);
+    return written(mpfr_signbit(rounded), value, in->precision, exponent, ternary);
 }
 
 /* Adds the number, or takes it away, in units of 2^unit. */
@@ -134,7 +137,7 @@ static answer by_integers(const input *in, const number *a, const number *b) {
     long unit = exact_value(in->operation, a, b);
     long bits = (long)mpz_sizeinbase(value, 2), extra = bits - (long)in->precision;
     long exponent = unit + bits - 1;
-    int negative = mpz_sgn(value) < 0, fraction = mpz_sgn(rest) != 0;
+    int negative = mpz_sgn(value) < 0, fraction = mpz_sgn(rest) != 0, accuracy = 0;
     if (mpz_sgn(value) == 0) return bare(NAVEHURO_WRITTEN);
     mpz_abs(value, value);
     if (extra > 0) {
@@ -145,8 +148,11 @@ static answer by_integers(const input *in, const number *a, const number *b) {
     }
     if (!is_working(exponent)) return bare(NAVEHURO_EXPONENT_OUTSIDE);
     if (in->mode == NAVEHURO_EXACT && fraction) return bare(NAVEHURO_TOO_MANY_BITS);
-    if (fraction) mpz_setbit(value, 0);
-    return written(negative, value, in->precision, exponent);
+    if (fraction) {
+        accuracy = mpz_odd_p(value) == negative ? 1 : -1; /* odd: the magnitude stays below */
+        mpz_setbit(value, 0);
+    }
+    return written(negative, value, in->precision, exponent, accuracy);
 }
 
 answer judge(const input *in) {

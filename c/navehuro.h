@@ -1,5 +1,6 @@
 /*
- * Sum, difference, product and quotient of numbers with 64-bit significands, each rounded once.
+ * Sum, difference, product and quotient of numbers with 64-bit significands, each rounded once, and
+ * where the result lies against the exact one.
  *
  * The functions stand in libexport.a, which `rt staticlib export` writes to target/staticlib; it is
  * for x86-64.
@@ -59,6 +60,13 @@ enum {
                             not for division */
 };
 
+/* Where a result lies: below the exact one, at it or above it, signs counted. */
+enum {
+    NAVEHURO_RESULT_BELOW = -1,
+    NAVEHURO_RESULT_EXACT = 0,
+    NAVEHURO_RESULT_ABOVE = 1
+};
+
 /*
  * What a call answers. Wrong lengths are looked for first, then operands that are no number, then the
  * other refusals from 1 on: the first that applies is the answer.
@@ -79,33 +87,37 @@ enum {
 /*
  * For each function:
  *
- * - a and b are read, result is written, each of the length behind it. No pointer may be null, also
- *   where the length is 0, and each must point at as many bytes as its length says, at any address.
- * - result must not overlap a or b. a and b may overlap, or be the same. Until the call returns nothing
- *   else may write to the three buffers, or read result.
- * - The answer is NAVEHURO_WRITTEN, and the sixteen bytes of result hold the number; or it is a
- *   refusal, and result is as it was. No other byte is written.
+ * - a and b are read, result is written, each of the length behind it; accuracy is written. No pointer
+ *   may be null, also where the length is 0, and each must point at as many bytes as its length says,
+ *   accuracy at one, at any address.
+ * - result and accuracy must not overlap, and neither may overlap a or b. a and b may overlap, or be the
+ *   same. Until the call returns nothing else may write to the three buffers or to accuracy, or read
+ *   result or accuracy.
+ * - The answer is NAVEHURO_WRITTEN, the sixteen bytes of result hold the number, and accuracy says where
+ *   that lies against the exact sum, difference, product or quotient; or the answer is a refusal, and
+ *   result and accuracy are as they were. No other byte is written.
  * - Nothing is kept between calls, so threads may call at the same time on buffers of their own.
  */
 
 /* a + b, rounded once to precision bits. */
 uint32_t navehuro_add(const uint8_t *a, size_t a_length, const uint8_t *b, size_t b_length,
-                      uint32_t mode, uint32_t precision, uint8_t *result, size_t result_length);
+                      uint32_t mode, uint32_t precision, uint8_t *result, size_t result_length,
+                      int8_t *accuracy);
 
 /* a - b, rounded once to precision bits. */
 uint32_t navehuro_subtract(const uint8_t *a, size_t a_length, const uint8_t *b, size_t b_length,
                            uint32_t mode, uint32_t precision, uint8_t *result,
-                           size_t result_length);
+                           size_t result_length, int8_t *accuracy);
 
 /* a * b, rounded once to precision bits. */
 uint32_t navehuro_multiply(const uint8_t *a, size_t a_length, const uint8_t *b, size_t b_length,
                            uint32_t mode, uint32_t precision, uint8_t *result,
-                           size_t result_length);
+                           size_t result_length, int8_t *accuracy);
 
 /* a / b, rounded once to precision bits. The exponents of a and b must be admissible. */
 uint32_t navehuro_divide(const uint8_t *a, size_t a_length, const uint8_t *b, size_t b_length,
                          uint32_t mode, uint32_t precision, uint8_t *result,
-                         size_t result_length);
+                         size_t result_length, int8_t *accuracy);
 
 #ifdef __cplusplus
 }

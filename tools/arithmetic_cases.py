@@ -7,15 +7,16 @@ from itertools import count, cycle, product
 from math import isqrt
 from typing import Iterator, NamedTuple
 
-import model
+import requests
 from model import AWAY, DOWN, EXACT, NEAR, STICKY, TRUNC, UP, ZERO, Finite, Number
 from operands import (
-    HIGHEST, LARGEST_WORD, LOWEST, ONES, TOP_BIT, UNFIT, answer_text, any_finite, any_signed,
-    arguments_text, bits, negated, number, signed,
+    HIGHEST, LARGEST_WORD, LOWEST, ONES, TOP_BIT, UNFIT, any_finite, any_signed, arguments_text,
+    bits, marked_text, negated, number, signed,
 )
 
 MODES = (TRUNC, AWAY, NEAR, STICKY, UP, DOWN, EXACT)
-OPERATIONS = {"add": model.add, "sub": model.subtract, "mul": model.multiply}
+OPERATIONS = {"add": requests.add_with_side, "sub": requests.subtract_with_side,
+              "mul": requests.multiply_with_side}
 
 
 class Case(NamedTuple):
@@ -36,7 +37,7 @@ class Case(NamedTuple):
     def answer(self) -> str:
         """What the model answers."""
         operation = OPERATIONS[self.operation]
-        return answer_text(operation(self.first, self.second, self.code, self.precision))
+        return marked_text(operation(self.first, self.second, self.code, self.precision))
 
 
 def giving(operation: str, whole: int, power: int) -> tuple[Number, Number]:

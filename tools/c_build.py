@@ -10,6 +10,9 @@ from pathlib import Path
 ROOT = Path(__file__).resolve().parent.parent
 SOURCES = ROOT / "c"
 COMPILER = "gcc"
+# Where rt writes what is measured and compared.
+ARCHIVE = "target/staticlib/libexport.a"
+REPORT = "target/bin/report"
 # Exit status where something is missing, does not build or fails.
 FAILED = 2
 # A header, and the Debian package that has it.
@@ -66,14 +69,15 @@ def built(path: str | None, place: str, *words: str) -> Path:
 
 def archive(path: str | None) -> Path:
     """The archive at the path, or that of the repository, built now."""
-    return built(path, "target/staticlib/libexport.a", "staticlib", "export")
+    return built(path, ARCHIVE, "staticlib", "export")
 
 
-def compiled(folder: str, sources: list[str], flags: list[str], libraries: list[str]) -> Path:
-    """The program of these sources, named after the first of them."""
+def compiled(folder: str, sources: list[str], flags: list[str], libraries: list[str],
+             place: Path = SOURCES) -> Path:
+    """The program of these sources at the place, named after the first of them."""
     program = Path(folder) / Path(sources[0]).stem
     words = [COMPILER, *flags, "-Wall", "-Wextra", "-Werror", "-o", str(program),
-             *(str(SOURCES / source) for source in sources), *libraries]
+             *(str(place / source) for source in sources), *libraries]
     if subprocess.run(words).returncode:
         leave(f"{' '.join(sources)} did not compile and link")
     return program

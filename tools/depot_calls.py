@@ -9,8 +9,8 @@ from typing import Callable, NamedTuple, Optional, Sequence
 import model
 from make_blocks import random_record
 from model import FRESH, Depot, Number, Record, Refused
-from operands import number_text, refusal_text
-from requests import make_block
+from operands import marked_text, number_text, refusal_text
+from requests import Rounded, make_block, rate_with_side
 
 
 class Part(NamedTuple):
@@ -51,6 +51,19 @@ class Offer(NamedTuple):
     row: Optional[int]
 
 
+class Rate(NamedTuple):
+    """A rate asked for, and what the model answers."""
+
+    fuel: int
+    distance: int
+    code: int
+    precision: int
+
+    @property
+    def answer(self) -> Rounded | Refused:
+        return rate_with_side(self.fuel, self.distance, self.code, self.precision)
+
+
 class Calls:
     """Calls one after the other from a fresh depot, their answers, and the state after them."""
 
@@ -61,6 +74,7 @@ class Calls:
         self.offers: list[Offer] = []
         self.states: list[Depot] = []
         self.asked: list[Optional[int]] = []
+        self.rates: list[Rate] = []
         self._answered(Line("fresh"), "fit")
 
     def _answered(self, line: Line, answer: str) -> None:
@@ -98,6 +112,14 @@ class Calls:
         self.asked.append(row)
         self._answered(Line("ask"), text)
         return row
+
+    def rate(self, *arguments: int) -> Rounded | Refused:
+        """Asks for the rate of fuel over a distance, by a mode code and a precision."""
+        rate = Rate(*arguments)
+        self.rates.append(rate)
+        self._answered(Line(f"rate {rate.code} {rate.precision} {rate.fuel} {rate.distance}"),
+                       marked_text(rate.answer))
+        return rate.answer
 
     def no_call(self, text: str) -> None:
         """A line that is no call."""

@@ -6,12 +6,14 @@ from collections import Counter
 from itertools import chain, combinations
 
 import model
-from depot_calls import Calls, Offer
-from model import BLOCK_BYTES, FULL_COUNT, LAST_BLOCK, LAST_COUNT, Depot, Record
-from operands import LARGEST_WORD
+from depot_calls import Calls, Offer, Rate
+from model import BLOCK_BYTES, FULL_COUNT, LAST_BLOCK, LAST_COUNT, Depot, Record, Refused
+from operands import LARGEST_WORD, MARKS
+from requests import ABOVE, BELOW
 
 LOADING_ROWS = (3, 9, 13, 14, 15, 16)
 ASKING_ROWS = (3, 17)
+RATE_ROWS = (1, 2, 5)
 # What is asserted: blocks offered, sequences, and how often each row refuses and each rule of a
 # block's layout and of its records is the only one broken.
 LEAST_OFFERS, LEAST_SEQUENCES, LEAST_REFUSALS, LEAST_BROKEN = 400, 60, 10, 5
@@ -131,6 +133,21 @@ def check_states(states: list[Depot]) -> None:
         assert {(True, 0, True), (False, 0, False), (False, 64, False)} <= ends
 
 
+def check_rates(rates: list[Rate]) -> Counter:
+    """How often each row refused a rate, and how often one lay below, at or above the exact one:
+    every row, and every mark in every mode that can give it."""
+    answers = [rate.answer for rate in rates]
+    counts = Counter(x.number if isinstance(x, Refused) else MARKS[x.side] for x in answers)
+    assert set(counts) == {*RATE_ROWS, *MARKS.values()}
+    assert all(counts[row] >= 2 for row in RATE_ROWS), counts
+    marks = {(rate.code, x.side) for rate, x in zip(rates, answers) if not isinstance(x, Refused)}
+    # A rate is not negative: trunc and down give none above, away and up none below.
+    assert marks == {(mode, side) for mode in range(model.EXACT) for side in MARKS
+                     if (mode, side) not in {(model.TRUNC, ABOVE), (model.DOWN, ABOVE),
+                                             (model.AWAY, BELOW), (model.UP, BELOW)}}
+    return counts
+
+
 def summary(sequences: list[Calls]) -> str:
     """What the sequences have, in one line; all that is asserted holds of them."""
     offers = [offer for calls in sequences for offer in calls.offers]
@@ -142,8 +159,12 @@ def summary(sequences: list[Calls]) -> str:
     check_records([record for offer in taken for record in model.records_of(offer.block)])
     check_last_block(offers)
     check_states(states)
+    rates = [rate for calls in sequences for rate in calls.rates]
+    marks = check_rates(rates)
     blocks = ", ".join(f"{row}: {refused(offers)[row]}" for row in LOADING_ROWS)
     figures = ", ".join(f"{row}: {asked.count(row)}" for row in ASKING_ROWS)
     return (f"{len(sequences)} sequences, {len(offers)} blocks offered, {len(taken)} taken, "
             f"refused {blocks}; {len(asked)} times figures asked for, {asked.count(None)} given, "
-            f"refused {figures}; {len(states)} states handed in")
+            f"refused {figures}; {len(states)} states handed in; {len(rates)} rates asked for, "
+            f"{', '.join(f'{mark}: {marks[mark]}' for mark in MARKS.values())}, "
+            f"refused {', '.join(f'{row}: {marks[row]}' for row in RATE_ROWS)}")

@@ -7,6 +7,7 @@ from itertools import combinations, cycle, product
 from typing import Iterator, NamedTuple
 
 import model
+import requests
 from division_operands import (
     DIGITS, REMAINDERS, any_pair, close, exactly, first_rounded, pair, results, vanishing,
     with_signs,
@@ -14,8 +15,9 @@ from division_operands import (
 from model import AWAY, DOWN, NEAR, STICKY, TRUNC, UP, ZERO, Finite, Number, Refused
 from operands import (
     HIGHEST, LARGEST_WORD, LOWEST, ONES, TOP_BIT, UNFIT, answer_text, any_finite, any_signed,
-    arguments_text, bits, number, refusal_text, signed,
+    arguments_text, bits, marked_text, number, refusal_text, signed,
 )
+from requests import ABOVE, BELOW, EQUAL, Rounded
 
 MODES = (TRUNC, AWAY, NEAR, STICKY, UP, DOWN)
 SIGNS = (False, True)
@@ -43,7 +45,8 @@ class Quotient(NamedTuple):
     @property
     def answer(self) -> str:
         """What the model answers."""
-        return answer_text(model.divide(self.dividend, self.divisor, self.code, self.precision))
+        return marked_text(requests.divide_with_side(self.dividend, self.divisor, self.code,
+                                                     self.precision))
 
 
 class Step(NamedTuple):
@@ -84,13 +87,15 @@ def document_quotients(chance: random.Random) -> Iterator[Case]:
     third = number(0xAAAA_AAAA_AAAA_AAAB, -65)
     lower_third = number(0xAAAA_AAAA_AAAA_AAAA, -65)
     known = (
-        (NEAR, 64, 1, 3, third), (TRUNC, 64, 1, 3, lower_third), (STICKY, 64, 1, 3, third),
-        (UP, 1, 1, 3, number(1, -1)), (UP, 1, -1, 3, number(-1, -2)), (NEAR, 1, 3, 2, number(2, 0)),
-        (NEAR, 2, 5, 4, number(1, 0)), (NEAR, 2, 7, 4, number(2, 0)), (NEAR, 64, 0, -5, ZERO),
+        (NEAR, 64, 1, 3, third, ABOVE), (TRUNC, 64, 1, 3, lower_third, BELOW),
+        (STICKY, 64, 1, 3, third, ABOVE), (UP, 1, 1, 3, number(1, -1), ABOVE),
+        (UP, 1, -1, 3, number(-1, -2), ABOVE), (NEAR, 1, 3, 2, number(2, 0), ABOVE),
+        (NEAR, 2, 5, 4, number(1, 0), BELOW), (NEAR, 2, 7, 4, number(2, 0), ABOVE),
+        (NEAR, 64, 0, -5, ZERO, EQUAL),
         # Rounding twice, and up taken as away.
-        (NEAR, 2, 11, 8, number(3, -1)), (NEAR, 1, 11, 8, number(1, 0)),
-        (UP, 1, 1, -3, number(-1, -2)), (DOWN, 1, -1, 3, number(-1, -1)),
-        (AWAY, 1, -1, 3, number(-1, -1)),
+        (NEAR, 2, 11, 8, number(3, -1), ABOVE), (NEAR, 1, 11, 8, number(1, 0), BELOW),
+        (UP, 1, 1, -3, number(-1, -2), ABOVE), (DOWN, 1, -1, 3, number(-1, -1), BELOW),
+        (AWAY, 1, -1, 3, number(-1, -1), BELOW),
     )
     one, least, most = number(1, 0), number(1, LEAST), number(1, MOST)
     ends = (
@@ -100,10 +105,12 @@ def document_quotients(chance: random.Random) -> Iterator[Case]:
         (one, most, number(1, -MOST)), (one, number(1, MOST + 1), Refused(4)),
         (most, least, number(1, 32_830)), (least, most, number(1, -32_830)),
     )
-    wanted = {Quotient(mode, n, number(p, 0), number(d, 0)): x for mode, n, p, d, x in known}
-    wanted |= {Quotient(NEAR, 64, p, d): x for p, d, x in ends}
+    wanted = {Quotient(mode, n, number(p, 0), number(d, 0)): Rounded(x, side)
+              for mode, n, p, d, x, side in known}
+    wanted |= {Quotient(NEAR, 64, p, d): x if isinstance(x, Refused) else Rounded(x, EQUAL)
+               for p, d, x in ends}
     for case, x in wanted.items():
-        assert case.answer == answer_text(x)
+        assert case.answer == marked_text(x)
         yield case
         yield Step(LAST_STEP, *case)
 
@@ -161,7 +168,7 @@ def zero_dividends(chance: random.Random) -> Iterator[Case]:
     for mode, negative in product(MODES, SIGNS):
         d = signed(any_finite(chance, -99, 99), negative)
         case = Quotient(mode, chance.randint(1, 64), ZERO, d)
-        assert case.answer == answer_text(ZERO)
+        assert case.answer == marked_text(Rounded(ZERO, EQUAL))
         yield case
     for wanted, reach in product(STEPS, (9, MOST)):
         case = Step(wanted, *any_task(chance), ZERO, any_finite(chance, -reach, reach))

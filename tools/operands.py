@@ -6,11 +6,13 @@ import random
 
 import model
 from model import ZERO, Finite, Number, Refused
+from requests import ABOVE, BELOW, EQUAL, Rounded
 
 LOWEST, HIGHEST = model.WORKING[0], model.WORKING[-1]
 TOP_BIT = 2**63
 ONES = 2**64 - 1
 LARGEST_WORD = 2**32 - 1
+MARKS = {BELOW: "below", EQUAL: "exact", ABOVE: "above"}
 # Each way of being unfit: by the top bit, and by the exponent.
 UNFIT = (*(Finite(False, 0, s) for s in (0, 1, TOP_BIT >> 1, TOP_BIT - 1)),
          *(Finite(False, e, TOP_BIT)
@@ -37,6 +39,13 @@ def refusal_text(refusal: Refused) -> str:
 def answer_text(answer: Number | Refused) -> str:
     """A number or a refusal as a line has it."""
     return refusal_text(answer) if isinstance(answer, Refused) else number_text(answer)
+
+
+def marked_text(answer: Rounded | Refused) -> str:
+    """A number with where it lies against the exact result, or a refusal, as a line has it."""
+    if isinstance(answer, Refused):
+        return refusal_text(answer)
+    return f"{number_text(answer.number)} {MARKS[answer.side]}"
 
 
 def number(whole: int, power: int) -> Number:

@@ -6,11 +6,11 @@ import random
 from itertools import product
 from typing import Iterator, NamedTuple
 
-import model
+import requests
 from model import EXACT, NEAR, ZERO, Finite, Number
 from operands import (
-    HIGHEST, LARGEST_WORD, LOWEST, ONES, TOP_BIT, UNFIT, answer_text, any_finite, any_signed,
-    bits, number, number_text, signed,
+    HIGHEST, LARGEST_WORD, LOWEST, ONES, TOP_BIT, UNFIT, any_finite, any_signed, bits,
+    marked_text, number, number_text, signed,
 )
 
 MODES = range(EXACT + 1)
@@ -32,7 +32,7 @@ class Case(NamedTuple):
     @property
     def answer(self) -> str:
         """What the model answers."""
-        return answer_text(model.round_number(self.number, self.code, self.precision))
+        return marked_text(requests.round_number_with_side(self.number, self.code, self.precision))
 
 
 # ---------------------------------------------------------------------------

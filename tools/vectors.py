@@ -27,12 +27,13 @@ import damage_cases
 import depot_cases
 import depot_coverage
 import division_cases
+import rate_cases
 import rounding_cases
 import state_cases
 
 WIDTH = 80
 FAMILIES = (arithmetic_cases, rounding_cases, code_cases, division_cases)
-DEPOT_FAMILIES = (depot_cases, damage_cases, state_cases)
+DEPOT_FAMILIES = (depot_cases, damage_cases, state_cases, rate_cases)
 
 
 def padded(text: str) -> bytes:

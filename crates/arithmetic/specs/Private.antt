@@ -4,7 +4,8 @@ use mathlib.Core.Path.{_≡_}
 use mathlib.Core.Bool.{true}
 use Prim.Native.Nat.{ℕ, _+_, _-_, _*_, _^_, _≤_, _<_}
 use Rattle.numbers.specs.Biased.{highestBiased}
-use Rattle.numbers.specs.Answer.{Outcome, refused, rounded, unlessEitherUnfit}
+use Rattle.numbers.specs.Accuracy.{markedBy}
+use Rattle.numbers.specs.Answer.{Outcome, refused, unlessEitherUnfit}
 use Rattle.numbers.specs.Cell.{wide, endOf}
 use Rattle.numbers.specs.Fraction.{Fraction, scaled}
 use Rattle.numbers.specs.Number.{isWorking}
@@ -47,10 +48,10 @@ highestExact = 262142
 unfoldable pub exactValue : Exact → Fraction
 exactValue x = scaled (x .negative) (endOf (wide (x .high) (x .low)) (x .rest)) (x .exponent) lastBit
 
--- x has an exponent that `rounded` takes, and every task rounds x as it rounds the value v
+-- x has an exponent that `rounded` takes, and every task rounds and marks x as the value v
 pub record IsExact (x : Exact) (v : Fraction) : Type 0 where
   pub biased : x .exponent ≤ highestExact
-  pub rounds : (task : Task) → 1 ≤ precisionOf task → precisionOf task ≤ 64 → rounded task (exactValue x) ≡ rounded task v
+  pub rounds : (task : Task) → 1 ≤ precisionOf task → precisionOf task ≤ 64 → markedBy task (exactValue x) ≡ markedBy task v
 
 -- rows 2 to 4: the row that refuses, whatever the answer would be, or that the operation is carried out
 unfoldable pub IsJudged : Number → Number → ℕ → Judgement → Type 0

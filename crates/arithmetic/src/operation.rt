@@ -1,9 +1,9 @@
 // Add, subtract, multiply and round by itself: any numbers and any task, or any mode code and
-// precision, and always an answer. The operands are working numbers, the codes 0 to 6; anything else is
-// refused.
+// precision, and always an answer, its number marked by where it lies against the exact result. The
+// operands are working numbers, the codes 0 to 6; anything else is refused.
 ghost use mathlib.Core.Path.{_≡_};
 ghost use mathlib.Core.Bool.{true};
-ghost use Rattle.numbers.specs.Answer.{outcome};
+ghost use Rattle.numbers.specs.Accuracy.{marked, markedAnswer};
 ghost use Rattle.numbers.specs.Fraction.{value, sum, difference, product};
 ghost use Rattle.numbers.specs.Number.{isWorking};
 ghost use Rattle.arithmetic.specs.Private.{operandValue, IsOperand, IsExact};
@@ -33,7 +33,7 @@ const UNRAISED_STEP: u32 = 65_598;
 
 // a + b.
 pub fn add(a: Number, b: Number, code: u32, precision: u32) -> Answer
-    ensures { λ r. ⌜ outcome r ≡ sumOf a b code precision ⌝ }
+    ensures { λ r. ⌜ markedAnswer r ≡ marked (sum (value a) (value b)) (sumOf a b code precision) ⌝ }
 {
     if LAST_CODE < code {
         return Answer::UnknownMode;
@@ -48,7 +48,7 @@ pub fn add(a: Number, b: Number, code: u32, precision: u32) -> Answer
 
 // a − b.
 pub fn subtract(a: Number, b: Number, code: u32, precision: u32) -> Answer
-    ensures { λ r. ⌜ outcome r ≡ differenceOf a b code precision ⌝ }
+    ensures { λ r. ⌜ markedAnswer r ≡ marked (difference (value a) (value b)) (differenceOf a b code precision) ⌝ }
 {
     if LAST_CODE < code {
         return Answer::UnknownMode;
@@ -63,7 +63,7 @@ pub fn subtract(a: Number, b: Number, code: u32, precision: u32) -> Answer
 
 // a × b.
 pub fn multiply(a: Number, b: Number, code: u32, precision: u32) -> Answer
-    ensures { λ r. ⌜ outcome r ≡ productOf a b code precision ⌝ }
+    ensures { λ r. ⌜ markedAnswer r ≡ marked (product (value a) (value b)) (productOf a b code precision) ⌝ }
 {
     if LAST_CODE < code {
         return Answer::UnknownMode;
@@ -85,7 +85,7 @@ pub enum Operation {
 
 // a + b, a − b or a × b by a task.
 pub fn operate(operation: Operation, a: Number, b: Number, task: Task) -> Answer
-    ensures { λ r. ⌜ outcome r ≡ operationOf (exactOf operation) a b task ⌝ }
+    ensures { λ r. ⌜ markedAnswer r ≡ marked (exactOf operation (value a) (value b)) (operationOf (exactOf operation) a b task) ⌝ }
 {
     match judged(a, b, precision_of(task)) {
         Judgement::BadPrecision => Answer::BadPrecision,
@@ -97,7 +97,7 @@ pub fn operate(operation: Operation, a: Number, b: Number, task: Task) -> Answer
 
 // x by itself by a task.
 pub fn round(x: Number, task: Task) -> Answer
-    ensures { λ r. ⌜ outcome r ≡ roundingOf x task ⌝ }
+    ensures { λ r. ⌜ markedAnswer r ≡ marked (value x) (roundingOf x task) ⌝ }
 {
     if !is_precision(precision_of(task)) {
         return Answer::BadPrecision;

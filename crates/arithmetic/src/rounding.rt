@@ -2,7 +2,7 @@
 // F at the exponent x stands for F × 2^(x − 131,196).
 ghost use mathlib.Core.Path.{_≡_};
 ghost use Prim.Native.Nat.{_≤_};
-ghost use Rattle.numbers.specs.Answer.{outcome, rounded};
+ghost use Rattle.numbers.specs.Accuracy.{markedAnswer, markedBy};
 ghost use Rattle.numbers.specs.Rounding.{precisionOf};
 ghost use Rattle.arithmetic.specs.Private.{exactValue, highestExact};
 use numbers::answer::Answer;
@@ -25,7 +25,7 @@ pub(crate) struct Exact {
 // A value rounded once, or claimed exact, by its task.
 pub(crate) fn rounded(x: Exact, task: Task) -> Answer
     requires { ⌜ (x .exponent ≤ highestExact) × (1 ≤ precisionOf task) × (precisionOf task ≤ 64) ⌝ }
-    ensures { λ r. ⌜ outcome r ≡ rounded task (exactValue x) ⌝ }
+    ensures { λ r. ⌜ markedAnswer r ≡ markedBy task (exactValue x) ⌝ }
 {
     let negative = x.negative;
     let exponent = x.exponent as i32 - LAST_BIT;

@@ -12,6 +12,7 @@ pub mod Mean
 pub mod Range
 -- Of the entries below: what they answer on a depot's numbers
 pub mod Answers
+pub mod Rates
 -- Of the state and the book
 pub mod Vans
 pub mod Reached

@@ -48,7 +48,7 @@ fn mean(side: Side, total: Number, moved: u32) -> Number
     requires { ⌜ (isFitSum total ≡ true) × (0 < moved) ⌝ }
     ensures { λ r. ⌜ r ≡ meanOf (modeOf side) total moved ⌝ }
 {
-    let Quotient::Given(x) = divide(total, number_of(moved), side.code(), PRECISION) else {
+    let Quotient::Given(x, _) = divide(total, number_of(moved), side.code(), PRECISION) else {
         return total;
     };
     x

@@ -1,8 +1,8 @@
-// A depot: its state, loading a block, and the figures. What is public stands in `state`, `load` and
-// `figures`.
+// A depot: its state, loading a block, the figures, and a rate. What is public stands in `state`, `load`,
+// `figures` and `rate`.
 pub mod figures;
 pub mod load;
-mod rate;
+pub mod rate;
 mod side;
 pub mod state;
 mod whole;

@@ -4,20 +4,25 @@ use Prim.Native.Nat.{ℕ}
 use Rattle.numbers.specs.Number.{isAdmissible}
 use Rattle.numbers.specs.Fraction.{value, quotient}
 use Rattle.numbers.specs.Rounding.{taskOf}
-use Rattle.numbers.specs.Answer.{Outcome, given, refused, rounded, unlessUnknown, unlessEitherUnfit}
+use Rattle.numbers.specs.Accuracy.{Marked, markedAs, refusedBy, unmarked}
+use Rattle.numbers.specs.Answer.{Outcome, refused, rounded, unlessUnknown, unlessEitherUnfit}
 use Rattle.numbers.specs.declared.number.Number.{Number}
 use Rattle.numbers.specs.declared.number.Number.the-variants.{Zero, Finite}
 use Rattle.division.specs.declared.answer.Quotient.{Quotient}
 use Rattle.division.specs.declared.answer.Quotient.the-variants.{Given, UnknownMode, BadPrecision, FirstUnfit, SecondUnfit, ZeroDivisor}
 
 -- "Where an answer is an enum, a definition gives this paper's number and values for each case of the enum"
-unfoldable pub quotientOutcome : Quotient → Outcome
-quotientOutcome (Given x) = given x
-quotientOutcome UnknownMode = refused 1
-quotientOutcome BadPrecision = refused 2
-quotientOutcome FirstUnfit = refused 3
-quotientOutcome SecondUnfit = refused 4
-quotientOutcome ZeroDivisor = refused 5
+unfoldable pub markedQuotient : Quotient → Marked
+markedQuotient (Given x accuracy) = markedAs x accuracy
+markedQuotient UnknownMode = refusedBy 1
+markedQuotient BadPrecision = refusedBy 2
+markedQuotient FirstUnfit = refusedBy 3
+markedQuotient SecondUnfit = refusedBy 4
+markedQuotient ZeroDivisor = refusedBy 5
+
+-- the number or the refusal alone
+abbrev pub quotientOutcome : Quotient → Outcome
+quotientOutcome r = unmarked (markedQuotient r)
 
 unfoldable pub isZero : Number → Bool
 isZero Zero = true

@@ -1,9 +1,10 @@
-// What `divide` answers: the number, or the row of document 01's table that refused, the number in each
-// comment.
+// What `divide` answers: the number with its accuracy, or the row of document 01's table that refused,
+// the number in each comment.
+use numbers::answer::Accuracy;
 use numbers::number::Number;
 
 pub enum Quotient {
-    Given(Number),
+    Given(Number, Accuracy),
     UnknownMode, // 1
     BadPrecision, // 2
     FirstUnfit, // 3

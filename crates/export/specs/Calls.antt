@@ -5,37 +5,47 @@ use mathlib.Core.Option.{Option, none, some}
 use Prim.Native.Nat.{ℕ}
 use lib.Dec.{eqb}
 use lib.ListN.{length}
-use Rattle.numbers.specs.Answer.{Outcome, given, refused}
+use lib.IntN.{ℤ, pos, negℤ}
+use Rattle.numbers.specs.Accuracy.{Marked, markedAs, refusedBy}
+use Rattle.numbers.specs.declared.answer.Accuracy.{Accuracy}
+use Rattle.numbers.specs.declared.answer.Accuracy.the-variants.{Below, Exact, Above}
 use Rattle.numbers.specs.declared.number.Number.{Number}
 use Rattle.export.specs.Layout.{layoutOf, numberIn}
 
--- what a call leaves: its answer, and the bytes of `result` at its exit
+-- an accuracy as a sign: −1 below, 0 exact, 1 above
+unfoldable pub ternaryOf : Accuracy → ℤ
+ternaryOf Below = negℤ (pos 1)
+ternaryOf Exact = pos 0
+ternaryOf Above = pos 1
+
+-- what a call leaves: its answer, and the bytes of `result` and the sign in `accuracy` at its exit
 pub record Call : Type 0 where
   pub answer : ℕ
   pub bytes : List ℕ
+  pub accuracy : ℤ
 
--- an answer with the bytes at exit
-unfoldable pub call : ℕ → List ℕ → Call
-call answer bytes = record { answer = answer; bytes = bytes }
+-- an answer with the bytes and the sign at exit
+unfoldable pub call : ℕ → List ℕ → ℤ → Call
+call answer bytes accuracy = record { answer = answer; bytes = bytes; accuracy = accuracy }
 
--- What an outcome leaves of the bytes `old`: 0 with the number's bytes, or the row that refused with the old ones.
-unfoldable pub leftBy : Outcome → List ℕ → Call
-leftBy (given x) old = call 0 (layoutOf x)
-leftBy (refused row) old = call row old
+-- What an outcome leaves of the bytes `old` and the sign `was`: 0 with the number's bytes and the sign of its accuracy, or the row that refused with the old ones.
+unfoldable pub leftBy : Marked → List ℕ → ℤ → Call
+leftBy (markedAs x accuracy) old was = call 0 (layoutOf x) (ternaryOf accuracy)
+leftBy (refusedBy row) old was = call row old was
 
 -- What two operands leave, by their operation: 64 where one of them is no number.
-unfoldable pub operated : (Number → Number → Outcome) → Option Number → Option Number → List ℕ → Call
-operated operation (some x) (some y) old = leftBy (operation x y) old
-operated operation (some x) none old = call 64 old
-operated operation none y old = call 64 old
+unfoldable pub operated : (Number → Number → Marked) → Option Number → Option Number → List ℕ → ℤ → Call
+operated operation (some x) (some y) old was = leftBy (operation x y) old was
+operated operation (some x) none old was = call 64 old was
+operated operation none y old was = call 64 old was
 
 -- are there sixteen bytes?
 unfoldable pub isSixteen : ℕ → Bool
 isSixteen n = eqb n 16
 
--- What a call leaves, of the bytes of its operands and the old bytes of `result`: 9 where one of the three has not sixteen bytes.
-unfoldable pub callOf : (Number → Number → Outcome) → List ℕ → List ℕ → List ℕ → Call
-callOf operation a b old =
+-- What a call leaves, of the bytes of its operands, the old bytes of `result` and the old sign: 9 where one of the three has not sixteen bytes.
+unfoldable pub callOf : (Number → Number → Marked) → List ℕ → List ℕ → List ℕ → ℤ → Call
+callOf operation a b old was =
     cond (isSixteen (length a) && (isSixteen (length b) && isSixteen (length old)))
-    (operated operation (numberIn a) (numberIn b) old)
-    (call 9 old)
+    (operated operation (numberIn a) (numberIn b) old was)
+    (call 9 old was)

@@ -4,8 +4,7 @@ use mathlib.Core.List.{List}
 use mathlib.Core.Option.{Option, none, some}
 use Prim.Native.Nat.{ℕ}
 use lib.ListN.{length}
-use Rattle.numbers.specs.Answer.{given, refused}
-use Rattle.numbers.specs.Answer as answer
+use Rattle.numbers.specs.Accuracy.{Marked, markedAs, refusedBy}
 use Rattle.numbers.specs.declared.number.Number.{Number}
 use Rattle.export.specs.Layout.{numberIn}
 use Rattle.export.specs.Calls.{isSixteen}
@@ -32,6 +31,6 @@ unfoldable pub operandsOf : List ℕ → List ℕ → ℕ → Operands
 operandsOf a b n = cond (isSixteen (length a) && (isSixteen (length b) && isSixteen n)) (pairOf (numberIn a) (numberIn b)) WrongLength
 
 -- an outcome of the code, as one of the definitions
-unfoldable pub outcomeOf : Outcome → answer.Outcome
-outcomeOf (outcome.Given x) = given x
-outcomeOf (outcome.Refused row) = refused row
+unfoldable pub outcomeOf : Outcome → Marked
+outcomeOf (outcome.Given x accuracy) = markedAs x accuracy
+outcomeOf (outcome.Refused row) = refusedBy row

@@ -1,15 +1,16 @@
 // What every call does around its operation: the operands are read from their bytes, and the outcome is
-// left in `result` and in the answer.
+// left in `result`, in `accuracy` and in the answer.
 ghost use mathlib.Core.Path.{_≡_};
 ghost use lib.ListN.{length};
-ghost use Rattle.numbers.specs.Answer.{outcome};
-ghost use Rattle.division.specs.Quotient.{quotientOutcome};
-ghost use Rattle.export.specs.Calls.{call, leftBy};
+ghost use Rattle.numbers.specs.Accuracy.{markedAnswer};
+ghost use Rattle.division.specs.Quotient.{markedQuotient};
+ghost use Rattle.export.specs.Calls.{ternaryOf, call, leftBy};
 ghost use Rattle.export.specs.Enums.{operandsOf, outcomeOf};
 use super::layout;
 use super::layout::NUMBER_BYTES;
 use super::layout::Reading;
 use division::answer::Quotient;
+use numbers::answer::Accuracy;
 use numbers::answer::Answer;
 use numbers::number::Number;
 
@@ -52,18 +53,18 @@ pub(crate) fn operands_in(a: &[u8], b: &[u8], room: usize) -> Operands
     Operands::Numbers(x, y)
 }
 
-// What an operation comes to: the number, or the row of document 01's table that refused.
+// What an operation comes to: the number with its accuracy, or the row of document 01's table that refused.
 pub(crate) enum Outcome {
-    Given(Number),
+    Given(Number, Accuracy),
     Refused(u32),
 }
 
 // The outcome of add, subtract and multiply.
 pub(crate) fn outcome_of(answer: Answer) -> Outcome
-    ensures { λ r. ⌜ outcomeOf r ≡ outcome answer ⌝ }
+    ensures { λ r. ⌜ outcomeOf r ≡ markedAnswer answer ⌝ }
 {
     match answer {
-        Answer::Given(x) => Outcome::Given(x),
+        Answer::Given(x, accuracy) => Outcome::Given(x, accuracy),
         Answer::UnknownMode => Outcome::Refused(1),
         Answer::BadPrecision => Outcome::Refused(2),
         Answer::FirstUnfit => Outcome::Refused(3),
@@ -75,10 +76,10 @@ pub(crate) fn outcome_of(answer: Answer) -> Outcome
 
 // The outcome of divide.
 pub(crate) fn quotient_outcome(answer: Quotient) -> Outcome
-    ensures { λ r. ⌜ outcomeOf r ≡ quotientOutcome answer ⌝ }
+    ensures { λ r. ⌜ outcomeOf r ≡ markedQuotient answer ⌝ }
 {
     match answer {
-        Quotient::Given(x) => Outcome::Given(x),
+        Quotient::Given(x, accuracy) => Outcome::Given(x, accuracy),
         Quotient::UnknownMode => Outcome::Refused(1),
         Quotient::BadPrecision => Outcome::Refused(2),
         Quotient::FirstUnfit => Outcome::Refused(3),
@@ -87,14 +88,26 @@ pub(crate) fn quotient_outcome(answer: Quotient) -> Outcome
     }
 }
 
-// Writes the number of an outcome, or leaves the bytes as they were; and the answer.
-pub(crate) fn leave(outcome: Outcome, result: &mut [u8]) -> u32
+// An accuracy as a sign: −1, 0 or 1 where the result lies below, at or above the exact one.
+fn ternary_of(accuracy: Accuracy) -> i8
+    ensures { λ r. ⌜ r ≡ ternaryOf accuracy ⌝ }
+{
+    match accuracy {
+        Accuracy::Below => -1,
+        Accuracy::Exact => 0,
+        Accuracy::Above => 1,
+    }
+}
+
+// Writes the number of an outcome and its accuracy, or leaves both as they were; and the answer.
+pub(crate) fn leave(outcome: Outcome, result: &mut [u8], accuracy: &mut i8) -> u32
     requires { ⌜ length (now result) ≡ 16 ⌝ }
-    ensures { λ r. ⌜ call r (now (result .exit)) ≡ leftBy (outcomeOf outcome) (now (result .entry)) ⌝ }
+    ensures { λ r. ⌜ call r (now (result .exit)) (now (accuracy .exit)) ≡ leftBy (outcomeOf outcome) (now (result .entry)) (now (accuracy .entry)) ⌝ }
 {
     match outcome {
-        Outcome::Given(x) => {
+        Outcome::Given(x, mark) => {
             layout::write(x, result);
+            *accuracy = ternary_of(mark);
             WRITTEN
         }
         Outcome::Refused(row) => row,

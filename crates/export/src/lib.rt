@@ -1,8 +1,11 @@
 // Add, subtract, multiply and divide for programs in other languages. A number is lent as sixteen
-// bytes (layout.rt). Each function answers 0 and has written the result, or answers a refusal and has
-// left `result` as it was: 1 to 8 for the row of document 01's table, 9 where a buffer has not sixteen
-// bytes, 64 where the bytes of an operand are no number.
+// bytes (layout.rt). Each function answers 0 and has written the result, and −1, 0 or 1 to `accuracy`
+// where that lies below, at or above the exact one; or it answers a refusal and has left both as they
+// were: 1 to 8 for the row of document 01's table, 9 where a buffer has not sixteen bytes, 64 where the
+// bytes of an operand are no number.
 ghost use mathlib.Core.Path.{_≡_};
+ghost use Rattle.numbers.specs.Accuracy.{marked};
+ghost use Rattle.numbers.specs.Fraction.{value, sum, difference, product, quotient};
 ghost use Rattle.arithmetic.specs.Operations.{sumOf, differenceOf, productOf};
 ghost use Rattle.division.specs.Quotient.{quotientOf};
 ghost use Rattle.export.specs.Calls.{call, callOf};
@@ -28,13 +31,18 @@ pub extern "C" fn navehuro_add(
     mode: u32,
     precision: u32,
     result: &mut [u8],
+    accuracy: &mut i8,
 ) -> u32
-    ensures { λ r. ⌜ call r (now (result .exit)) ≡ callOf (λ x y. sumOf x y mode precision) (now (a .entry)) (now (b .entry)) (now (result .entry)) ⌝ }
+    ensures { λ r. ⌜ call r (now (result .exit)) (now (accuracy .exit)) ≡ callOf (λ x y. marked (sum (value x) (value y)) (sumOf x y mode precision)) (now (a .entry)) (now (b .entry)) (now (result .entry)) (now (accuracy .entry)) ⌝ }
 {
     let operands = operands_in(a, b, result.len());
     match operands {
         Operands::Numbers(x, y) => {
-            leave(outcome_of(operation::add(x, y, mode, precision)), result)
+            leave(
+                outcome_of(operation::add(x, y, mode, precision)),
+                result,
+                accuracy,
+            )
         }
         Operands::WrongLength => WRONG_LENGTH,
         Operands::NoNumber => NO_NUMBER,
@@ -49,8 +57,9 @@ pub extern "C" fn navehuro_subtract(
     mode: u32,
     precision: u32,
     result: &mut [u8],
+    accuracy: &mut i8,
 ) -> u32
-    ensures { λ r. ⌜ call r (now (result .exit)) ≡ callOf (λ x y. differenceOf x y mode precision) (now (a .entry)) (now (b .entry)) (now (result .entry)) ⌝ }
+    ensures { λ r. ⌜ call r (now (result .exit)) (now (accuracy .exit)) ≡ callOf (λ x y. marked (difference (value x) (value y)) (differenceOf x y mode precision)) (now (a .entry)) (now (b .entry)) (now (result .entry)) (now (accuracy .entry)) ⌝ }
 {
     let operands = operands_in(a, b, result.len());
     match operands {
@@ -58,6 +67,7 @@ pub extern "C" fn navehuro_subtract(
             leave(
                 outcome_of(operation::subtract(x, y, mode, precision)),
                 result,
+                accuracy,
             )
         }
         Operands::WrongLength => WRONG_LENGTH,
@@ -73,8 +83,9 @@ pub extern "C" fn navehuro_multiply(
     mode: u32,
     precision: u32,
     result: &mut [u8],
+    accuracy: &mut i8,
 ) -> u32
-    ensures { λ r. ⌜ call r (now (result .exit)) ≡ callOf (λ x y. productOf x y mode precision) (now (a .entry)) (now (b .entry)) (now (result .entry)) ⌝ }
+    ensures { λ r. ⌜ call r (now (result .exit)) (now (accuracy .exit)) ≡ callOf (λ x y. marked (product (value x) (value y)) (productOf x y mode precision)) (now (a .entry)) (now (b .entry)) (now (result .entry)) (now (accuracy .entry)) ⌝ }
 {
     let operands = operands_in(a, b, result.len());
     match operands {
@@ -82,6 +93,7 @@ pub extern "C" fn navehuro_multiply(
             leave(
                 outcome_of(operation::multiply(x, y, mode, precision)),
                 result,
+                accuracy,
             )
         }
         Operands::WrongLength => WRONG_LENGTH,
@@ -97,8 +109,9 @@ pub extern "C" fn navehuro_divide(
     mode: u32,
     precision: u32,
     result: &mut [u8],
+    accuracy: &mut i8,
 ) -> u32
-    ensures { λ r. ⌜ call r (now (result .exit)) ≡ callOf (λ x y. quotientOf x y mode precision) (now (a .entry)) (now (b .entry)) (now (result .entry)) ⌝ }
+    ensures { λ r. ⌜ call r (now (result .exit)) (now (accuracy .exit)) ≡ callOf (λ x y. marked (quotient (value x) (value y)) (quotientOf x y mode precision)) (now (a .entry)) (now (b .entry)) (now (result .entry)) (now (accuracy .entry)) ⌝ }
 {
     let operands = operands_in(a, b, result.len());
     match operands {
@@ -106,6 +119,7 @@ pub extern "C" fn navehuro_divide(
             leave(
                 quotient_outcome(quotient::divide(x, y, mode, precision)),
                 result,
+                accuracy,
             )
         }
         Operands::WrongLength => WRONG_LENGTH,

@@ -1,5 +1,5 @@
--- The known values of document 01, computed: P1 to P12, and with them others that the program runs as well. Each line has what the definitions give and
--- what document 01 says.
+-- The known values of document 01, computed: P1 to P12, and with them others that the program runs as well, and where some results lie against the exact ones.
+-- Each line has what the definitions give and what is expected.
 use mathlib.Core.Path.{_≡_, refl}
 use mathlib.Core.Bool.{false}
 use mathlib.Core.List.{List, [], _∷_, map}
@@ -9,9 +9,11 @@ use lib.Ieee.{size, minus}
 use lib.IntN.{ℤ}
 use Rattle.little_endian.specs.Bytes.{littleEndian, bytesOf}
 use Rattle.numbers.specs.Number.{isSignificand, isBetween, isFit, isWorkingExponent, isAdmissibleExponent, negated}
-use Rattle.numbers.specs.Fraction.{signed, value, isEqual, sum, product, dividedBy, quotient, isNegative}
+use Rattle.numbers.specs.Fraction.{signed, value, isEqual, isAtMost, sum, product, dividedBy, quotient, isNegative}
 use Rattle.numbers.specs.Rounding.{settled, exponentOf, scaledNumerator, scaledDenominator, goesUp, wholeOf, placed, roundedAt, round, hasAtMostBits, taskOf, isPrecision}
+use Rattle.numbers.specs.Accuracy.{Marked, markedAs, accuracyOf, marked}
 use Rattle.numbers.specs.Answer.{Outcome, given, refused, checked, claimed, rounded, unlessUnknown, unlessUnfit, judged}
+use Rattle.numbers.specs.declared.answer.Accuracy.the-variants as accuracy
 use Rattle.numbers.specs.declared.number.Number.{Number}
 use Rattle.numbers.specs.declared.number.Number.the-variants.{Zero, Finite}
 use Rattle.arithmetic.specs.Operations.{operationOf, roundingOf, codedOf, sumOf, productOf}
@@ -19,9 +21,10 @@ use Rattle.codes.specs.Codes.{doubleExtended, binary64, exponentBits, allOnes, 
 use Rattle.division.specs.Quotient.{isZero, unlessIndivisible, quotientOf}
 use Rattle.division.specs.Seed.{nearest, entryOf}
 
--- what an operation, a division or a reading answers; what a writing leaves, its refusal and its bytes as one whole number; or an entry of the seed table
+-- what an operation, a division or a reading answers, and with it where its number lies; what a writing leaves, its refusal and its bytes as one whole number; or an entry of the seed table
 pub data Result : Type 0 where
   answered : Outcome → Result
+  measured : Marked → Result
   wrote : Option ℕ → ℕ → Result
   entry : ℕ → Result
 
@@ -57,6 +60,9 @@ one = power (minus 0 0)
 abbrev three : Number
 three = finite (minus 1 0) 0xC000000000000000
 
+abbrev four : Number
+four = power (minus 2 0)
+
 abbrev five : Number
 five = finite (minus 2 0) 0xA000000000000000
 
@@ -73,9 +79,12 @@ is x = answered (given x)
 abbrev isRefused : ℕ → Result
 isRefused row = answered (refused row)
 
--- p / d; x rounded by itself; what was given rounded once more
+-- p / d, and where it lies; x rounded by itself; what was given rounded once more
 abbrev divided : Number → Number → ℕ → ℕ → Result
 divided p d code n = answered (quotientOf p d code n)
+
+abbrev lying : Number → Number → ℕ → ℕ → Result
+lying p d code n = measured (marked (quotient (value p) (value d)) (quotientOf p d code n))
 
 abbrev rounding : Number → ℕ → ℕ → Outcome
 rounding x code n = roundingOf x (taskOf code n)
@@ -133,8 +142,15 @@ values =
     ∷ (answered (rounding elevenEighths near 2), is (finite (minus 0 0) 0xC000000000000000))
     ∷ (answered (again (rounding elevenEighths near 2) near 1), is (power (minus 1 0)))
     ∷ (answered (rounding elevenEighths near 1), is one)
+    -- 1/3 near 64 lies above, trunc below, −1/3 trunc above; 3/2 near 1 above; 0 / −5 and 1/4 are exact
+    ∷ (lying one three near 64, measured (markedAs (finite (minus 0 2) 0xAAAAAAAAAAAAAAAB) accuracy.Above))
+    ∷ (lying one three trunc 64, measured (markedAs (finite (minus 0 2) 0xAAAAAAAAAAAAAAAA) accuracy.Below))
+    ∷ (lying (negated one) three trunc 64, measured (markedAs (negated (finite (minus 0 2) 0xAAAAAAAAAAAAAAAA)) accuracy.Above))
+    ∷ (lying three (power (minus 1 0)) near 1, measured (markedAs (power (minus 1 0)) accuracy.Above))
+    ∷ (lying Zero (negated five) near 64, measured (markedAs Zero accuracy.Exact))
+    ∷ (lying one four near 64, measured (markedAs (power (minus 0 2)) accuracy.Exact))
     ∷ []
 
 pub known : map (λ (v : Result × Result). v .0) values ≡ map (λ (v : Result × Result). v .1) values
-unfolding values negated readingOf numberOf judgedCode writingOf packed unwritten equalCode isEqual encoded fieldOf belowNormal decoded isCanonical split join leadingOne bytesOf littleEndian exponentBits allOnes doubleExtended binary64 sumOf productOf codedOf operationOf roundingOf unlessUnknown unlessUnfit isPrecision isFit isBetween isSignificand isWorkingExponent taskOf rounded checked claimed judged round roundedAt hasAtMostBits isNegative placed wholeOf goesUp scaledNumerator scaledDenominator exponentOf settled size value signed sum product quotientOf unlessIndivisible isZero isAdmissibleExponent quotient dividedBy entryOf nearest
+unfolding values negated readingOf numberOf judgedCode writingOf packed unwritten equalCode isEqual isAtMost accuracyOf marked encoded fieldOf belowNormal decoded isCanonical split join leadingOne bytesOf littleEndian exponentBits allOnes doubleExtended binary64 sumOf productOf codedOf operationOf roundingOf unlessUnknown unlessUnfit isPrecision isFit isBetween isSignificand isWorkingExponent taskOf rounded checked claimed judged round roundedAt hasAtMostBits isNegative placed wholeOf goesUp scaledNumerator scaledDenominator exponentOf settled size value signed sum product quotientOf unlessIndivisible isZero isAdmissibleExponent quotient dividedBy entryOf nearest
 known = refl

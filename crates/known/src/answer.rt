@@ -1,17 +1,20 @@
 // Prints the answer line of a case: a number or `written`, or `refused` with the row of document 01's
-// table that refused; after a writing also the buffer.
+// table that refused; behind the number of an operation or a division its accuracy, and after a writing
+// the buffer.
 use codes::code::Reading;
 use codes::code::Writing;
 use division::answer::Quotient;
 use lines::buffer;
 use lines::number;
 use lines::out;
+use numbers::answer::Accuracy;
 use numbers::answer::Answer;
 use numbers::number::Number;
 use steps::answer::Step;
 
-// A number, or the row that refused.
+// A number with its accuracy, a number alone, or the row that refused.
 pub enum Outcome {
+    Marked(Number, Accuracy),
     Given(Number),
     Refused(u64),
 }
@@ -19,7 +22,7 @@ pub enum Outcome {
 // What an operation answers.
 pub fn of_operation(answer: Answer) -> Outcome {
     match answer {
-        Answer::Given(x) => Outcome::Given(x),
+        Answer::Given(x, accuracy) => Outcome::Marked(x, accuracy),
         Answer::UnknownMode => Outcome::Refused(1),
         Answer::BadPrecision => Outcome::Refused(2),
         Answer::FirstUnfit => Outcome::Refused(3),
@@ -32,7 +35,7 @@ pub fn of_operation(answer: Answer) -> Outcome {
 // What a division answers.
 pub fn of_quotient(answer: Quotient) -> Outcome {
     match answer {
-        Quotient::Given(x) => Outcome::Given(x),
+        Quotient::Given(x, accuracy) => Outcome::Marked(x, accuracy),
         Quotient::UnknownMode => Outcome::Refused(1),
         Quotient::BadPrecision => Outcome::Refused(2),
         Quotient::FirstUnfit => Outcome::Refused(3),
@@ -69,6 +72,7 @@ pub fn of_reading(answer: Reading) -> Outcome {
 // Prints what is given or refused.
 pub fn print(answer: Outcome) {
     match answer {
+        Outcome::Marked(x, accuracy) => number::print_marked(x, accuracy),
         Outcome::Given(x) => number::print(x),
         Outcome::Refused(row) => refused(row),
     }

@@ -1,9 +1,11 @@
 // Prints the answer line of a call: `fit` or `unfit` for a state handed in, `taken` for a block, two
-// figures, or `refused` with the row of document 01's table that refused.
+// figures, a rate with its accuracy, or `refused` with the row of document 01's table that refused.
 use depot::figures::Bracket;
 use depot::load::Loading;
+use division::answer::Quotient;
 use lines::number;
 use lines::out;
+use numbers::answer::Accuracy;
 use numbers::number::Number;
 
 // Prints whether a state handed in is fit.
@@ -36,6 +38,18 @@ pub fn print_bracket(answer: Bracket) {
     }
 }
 
+// Prints what asking for a rate answers.
+pub fn print_rate(answer: Quotient) {
+    match answer {
+        Quotient::Given(x, accuracy) => print_marked(x, accuracy),
+        Quotient::UnknownMode => print_refused(1),
+        Quotient::BadPrecision => print_refused(2),
+        Quotient::FirstUnfit => print_refused(3),
+        Quotient::SecondUnfit => print_refused(4),
+        Quotient::ZeroDivisor => print_refused(5),
+    }
+}
+
 // Prints that a line is not a call.
 pub fn print_no_call() {
     out::bytes(b"not a call\n");
@@ -46,6 +60,11 @@ fn print_figures(low: Number, high: Number) {
     number::print(low);
     out::bytes(b" high ");
     number::print(high);
+    out::bytes(b"\n");
+}
+
+fn print_marked(x: Number, accuracy: Accuracy) {
+    number::print_marked(x, accuracy);
     out::bytes(b"\n");
 }
 

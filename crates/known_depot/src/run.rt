@@ -1,6 +1,7 @@
 // Makes a call and prints its answer.
 use super::answer;
 use super::call::Call;
+use depot::rate::rate_of;
 use depot::state::Depot;
 use libc::STDIN_FILENO;
 
@@ -13,6 +14,15 @@ pub fn run(call: Call, depot: Depot) -> Depot {
         Call::HandIn(next) => hand_in(next),
         Call::Load(length) => load(depot, length),
         Call::Ask => ask(depot),
+        Call::Rate {
+            code,
+            precision,
+            fuel,
+            distance,
+        } => {
+            answer::print_rate(rate_of(fuel, distance, code, precision));
+            depot
+        }
         Call::Unreadable => leave(depot),
     }
 }

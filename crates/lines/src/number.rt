@@ -1,5 +1,5 @@
 // Reads and prints a number: `zero`, or its sign, the sixteen hexadecimal digits of its significand
-// and its exponent in decimal.
+// and its exponent in decimal; behind it, where it has one, its accuracy: `below`, `exact` or `above`.
 use super::line;
 use super::line::Cursor;
 use super::line::Line;
@@ -7,6 +7,7 @@ use super::line::Place;
 use super::line::Whole;
 use super::out;
 use super::signed;
+use numbers::answer::Accuracy;
 use numbers::number::Number;
 
 // An exponent of a line.
@@ -105,6 +106,16 @@ pub fn print(x: Number) {
         } => {
             print_finite(negative, exponent, significand);
         }
+    }
+}
+
+// Prints a number and its accuracy, with no newline.
+pub fn print_marked(x: Number, accuracy: Accuracy) {
+    print(x);
+    match accuracy {
+        Accuracy::Below => out::bytes(b" below"),
+        Accuracy::Exact => out::bytes(b" exact"),
+        Accuracy::Above => out::bytes(b" above"),
     }
 }
 

@@ -34,7 +34,7 @@ use Rattle.meaning.proofs.Neighbours.{units-or-few, Between, between-ow
 use Rattle.meaning.proofs.Sides.{along, OneSide, one-side, side-above, side-below, size-order, ordered-by}
 
 -- a fraction that has the value of a number of n bits is one
-equal-bits : {n : ℕ} (x y : Fraction) → IsFraction x → Equal x y → HasBits n y → HasBits n x
+pub equal-bits : {n : ℕ} (x y : Fraction) → IsFraction x → Equal x y → HasBits n y → HasBits n x
 equal-bits x y x0 e h =
     let z = scaled (h .negative) (h .whole) (h .i) (h .o) in
     record {

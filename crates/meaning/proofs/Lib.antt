@@ -7,6 +7,8 @@ pub mod Neighbours
 pub mod Between
 pub mod Nearest
 pub mod Meaning
+-- Where a rounding lies
+pub mod Accuracy
 -- Rounding keeps the order
 pub mod Monotone
 -- Near to 53 bits is the rounding of IEEE 754's binary64

@@ -6,8 +6,6 @@ use lib.IntN.{natAbs}
 use Rattle.numbers.specs.Number.{isWorkingExponent}
 use Rattle.numbers.specs.Fraction.{Fraction}
 use Rattle.numbers.specs.Rounding.{exponentOf, round, hasAtMostBits, isPrecision}
-use Rattle.numbers.specs.declared.answer.Answer.{Answer}
-use Rattle.numbers.specs.declared.answer.Answer.the-variants.{Given, UnknownMode, BadPrecision, FirstUnfit, SecondUnfit, ExponentOutside, TooManyBits}
 use Rattle.numbers.specs.declared.number.Number.{Number}
 use Rattle.numbers.specs.declared.number.Number.the-variants.{Zero, Finite}
 use Rattle.numbers.specs.declared.task.Mode.the-variants.{Trunc}
@@ -18,16 +16,6 @@ use Rattle.numbers.specs.declared.task.Task.the-variants.{Round, Exact}
 pub data Outcome : Type 0 where
   given : Number → Outcome
   refused : ℕ → Outcome
-
--- "Where an answer is an enum, a definition gives this paper's number and values for each case of the enum"
-unfoldable pub outcome : Answer → Outcome
-outcome (Given x) = given x
-outcome UnknownMode = refused 1
-outcome BadPrecision = refused 2
-outcome FirstUnfit = refused 3
-outcome SecondUnfit = refused 4
-outcome ExponentOutside = refused 7
-outcome TooManyBits = refused 8
 
 -- Row 7: "exponent of the result (exact claim: of the value) not working". Here of a rounding, so of its result; zero has no exponent.
 unfoldable pub checked : Number → Outcome

@@ -6,7 +6,7 @@ use Prim.Native.Nat.{ℕ, _+_, _*_, _/_, _^_, _≤_}
 use lib.IntN.{ℤ}
 use Rattle.numbers.specs.Fraction.{Fraction, IsFraction, HasSign, above, below, scaled}
 use Rattle.numbers.specs.Rounding.{precisionOf, isPrecision}
-use Rattle.numbers.specs.Answer.{Outcome, refused, rounded}
+use Rattle.numbers.specs.Accuracy.{Marked, refusedBy, markedBy}
 use Rattle.numbers.specs.Grid.{HasCell}
 use Rattle.numbers.specs.declared.task.Task.{Task}
 
@@ -31,12 +31,12 @@ unfoldable pub binary : Bool → ℕ → ℤ → Fraction
 binary negative F e = scaled negative F (above e) (below e)
 
 -- What rounding a cell answers. Row 2: "precision not 1 to 64".
-unfoldable pub cellRounding : Bool → ℕ → Bool → ℤ → Task → Outcome
-cellRounding negative F rest e task = cond (not (isPrecision (precisionOf task))) (refused 2) (rounded task (binary negative (endOf F rest) e))
+unfoldable pub cellRounding : Bool → ℕ → Bool → ℤ → Task → Marked
+cellRounding negative F rest e task = cond (not (isPrecision (precisionOf task))) (refusedBy 2) (markedBy task (binary negative (endOf F rest) e))
 
--- The answer is the rounding of every value of the cell, where the cell has no rest, or two bits more than the task asks. With one bit more the odd end
--- may be rounded otherwise than the values, and in a shorter cell the values themselves may differ.
-unfoldable pub RoundsEvery : Outcome → Bool → ℕ → Bool → ℤ → Task → Type 0
+-- The answer is the rounding of every value of the cell, and its mark that of every value, where the cell has no rest, or two bits more than the task
+-- asks. With one bit more the odd end may be rounded otherwise than the values, and in a shorter cell the values themselves may differ.
+unfoldable pub RoundsEvery : Marked → Bool → ℕ → Bool → ℤ → Task → Type 0
 RoundsEvery answer negative F rest e task =
     isPrecision (precisionOf task) ≡ true → (rest ≡ true → 2 * 2 ^ precisionOf task ≤ F)
-    → (x : Fraction) → IsFraction x → HasSign negative x → LiesIn x F rest e → answer ≡ rounded task x
+    → (x : Fraction) → IsFraction x → HasSign negative x → LiesIn x F rest e → answer ≡ markedBy task x

@@ -34,6 +34,10 @@ isEqual x y =
     let b = y .numerator *ℤ pos (x .denominator) in
     leZ a b && leZ b a
 
+-- x ≤ y as a test
+unfoldable pub isAtMost : Fraction → Fraction → Bool
+isAtMost x y = leZ (x .numerator *ℤ pos (y .denominator)) (y .numerator *ℤ pos (x .denominator))
+
 -- a whole number by its sign and its magnitude: the sign of 0 is not kept
 unfoldable pub signed : Bool → ℕ → ℤ
 signed false a = pos a

@@ -1,5 +1,5 @@
 -- The theorem that joins the steps to the quotient (`division`, at the end), from the laws of the steps.
-use mathlib.Core.Path.{_≡_, refl, sym, subst, ap, _∙_}
+use mathlib.Core.Path.{_≡_, refl, sym, subst, ap, ap₂, _∙_}
 use mathlib.Core.Bool.{Bool, true, false, not, cond, false≢true}
 use Prim.Native.Nat.{ℕ, _≤_}
 use native.Mathlib.Omega.{arith}
@@ -8,10 +8,12 @@ use lib.Dec.{ltb, lit≤}
 use lib.Ieee.{minus}
 use lib.IntN.{ℤ}
 use Rattle.numbers.specs.Biased.{bias}
+use Rattle.numbers.specs.Accuracy.{markedAs, refusedBy, accuracyOf, marked}
 use Rattle.numbers.specs.Answer.{Outcome, given, refused, rounded, unlessUnknown, unlessUnfit}
 use Rattle.numbers.specs.Fraction.{value, quotient}
 use Rattle.numbers.specs.Number.{isWorking, isAdmissible}
 use Rattle.numbers.specs.Rounding.{round, byMode, taskOf, isPrecision}
+use Rattle.numbers.specs.declared.answer.Accuracy.{Accuracy}
 use Rattle.numbers.specs.declared.number.Number.{Number}
 use Rattle.numbers.specs.declared.number.Number.the-variants.{Zero, Finite}
 use Rattle.numbers.specs.declared.task.Mode.{Mode}
@@ -19,7 +21,7 @@ use Rattle.numbers.proofs.Laws.Fits.{given-round, working-checked}
 use Rattle.numbers.proofs.Laws.Refusals.{precision-range, mode-of}
 use Rattle.numbers.proofs.Laws.Scaled.{equal-scaled}
 use Rattle.numbers.proofs.Laws.Tests.{never}
-use Rattle.division.specs.Quotient.{isZero, quotientOutcome, unlessIndivisible, quotientOf}
+use Rattle.division.specs.Quotient.{isZero, markedQuotient, unlessIndivisible, quotientOf}
 use Rattle.division.specs.Judgement.{IsTaken}
 use Rattle.division.specs.declared.answer.Quotient.{Quotient}
 use Rattle.division.specs.declared.answer.Quotient.the-variants as answer
@@ -147,14 +149,17 @@ given-step step.NoSuchStep x e = absurd (refused-given 6 x e)
 given-step step.ExponentOutside x e = absurd (refused-given 7 x e)
 given-step step.TooManyBits x e = absurd (refused-given 8 x e)
 
-given-quotient : (r : Quotient) (x : Number) → quotientOutcome r ≡ given x → r ≡ answer.Given x
-unfolding quotientOutcome
-given-quotient (answer.Given y) x e = let same : y ≡ x = cc in ap answer.Given same
-given-quotient answer.UnknownMode x e = absurd (refused-given 1 x e)
-given-quotient answer.BadPrecision x e = absurd (refused-given 2 x e)
-given-quotient answer.FirstUnfit x e = absurd (refused-given 3 x e)
-given-quotient answer.SecondUnfit x e = absurd (refused-given 4 x e)
-given-quotient answer.ZeroDivisor x e = absurd (refused-given 5 x e)
+refused-marked : (k : ℕ) (x : Number) (mark : Accuracy) → refusedBy k ≡ markedAs x mark → ⊥
+refused-marked k x mark e = never cc
+
+given-quotient : (r : Quotient) (x : Number) (mark : Accuracy) → markedQuotient r ≡ markedAs x mark → r ≡ answer.Given x mark
+unfolding markedQuotient
+given-quotient (answer.Given y own) x mark e = let same : y ≡ x = cc in let alike : own ≡ mark = cc in ap₂ answer.Given same alike
+given-quotient answer.UnknownMode x mark e = absurd (refused-marked 1 x mark e)
+given-quotient answer.BadPrecision x mark e = absurd (refused-marked 2 x mark e)
+given-quotient answer.FirstUnfit x mark e = absurd (refused-marked 3 x mark e)
+given-quotient answer.SecondUnfit x mark e = absurd (refused-marked 4 x mark e)
+given-quotient answer.ZeroDivisor x mark e = absurd (refused-marked 5 x mark e)
 
 -- where no row applies, the step entry gives the value of the table and the quotient entry the exact quotient rounded once
 module _ (p d : Number) (code n : ℕ) (is : IsTaken p d code n) where
@@ -166,6 +171,7 @@ module _ (p d : Number) (code n : ℕ) (is : IsTaken p d code n) where
   table-given k k0 k1 = let m = coded p d code n is in let x = m .2 .every-step-given k k0 k1 in (x .0, rw (m .1) (x .1))
 
   pub answered : IsAnswered p d code n
+  unfolding marked
   answered = record {
     step-given = λ (k : ℕ) (k0 : 1 ≤ k) (k1 : k ≤ 32).
         let x = table-given k k0 k1 in
@@ -173,10 +179,11 @@ module _ (p d : Number) (code n : ℕ) (is : IsTaken p d code n) where
         (x .0, x .1, entry, λ (r : Step) (e : stepOutcome r ≡ stepOf p d code n k). given-step r (x .0) (e ∙ entry));
     quotient-given =
         let m = coded p d code n is in
-        let x = round (m .0) n (quotient (value p) (value d)) in
+        let v = quotient (value p) (value d) in
+        let x = round (m .0) n v in
         let last : afterStep p d (taskOf code n) 32 ≡ given x = rw (m .1) (m .2 .rounded-once) in
         let entry = quotient-taken is ∙ sym (coded-once p d code n is) ∙ last in
-        (m .0, m .1, entry, λ (r : Quotient) (e : quotientOutcome r ≡ quotientOf p d code n). given-quotient r x (e ∙ entry));
+        (m .0, m .1, entry, λ (r : Quotient) (e : markedQuotient r ≡ marked v (quotientOf p d code n)). given-quotient r x (accuracyOf (value x) v) (e ∙ ap (marked v) entry));
   }
 
 -- The theorem, whole: for every admissible dividend, every admissible divisor but zero, the six modes and every precision from 1 to 64 the seed is near,

@@ -7,7 +7,8 @@ use lib.ListN.{getD}
 use Rattle.numbers.specs.Number.{isWorking}
 use Rattle.numbers.specs.Fraction.{Equal, value, sum, difference, product}
 use Rattle.numbers.specs.Rounding.{byMode, claim}
-use Rattle.numbers.specs.Answer.{Outcome, given, refused, outcome, rounded}
+use Rattle.numbers.specs.Accuracy.{outcome}
+use Rattle.numbers.specs.Answer.{Outcome, given, refused, rounded}
 use Rattle.numbers.specs.declared.number.Number.{Number}
 use Rattle.numbers.specs.declared.task.Mode.the-variants.{Trunc, Away, Sticky}
 use Rattle.numbers.specs.declared.task.Task.{Task}

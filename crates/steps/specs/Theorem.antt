@@ -6,11 +6,12 @@ use lib.IntN.{pos}
 use Rattle.numbers.specs.Number.{isWorking, isAdmissible}
 use Rattle.numbers.specs.Fraction.{Fraction, Equal, Below, value, sum, difference, product, quotient, magnitude}
 use Rattle.numbers.specs.Rounding.{round, byMode, taskOf}
+use Rattle.numbers.specs.Accuracy.{accuracyOf, marked}
 use Rattle.numbers.specs.Answer.{Outcome, given, refused}
 use Rattle.numbers.specs.declared.number.Number.{Number}
 use Rattle.numbers.specs.declared.task.Mode.{Mode}
 use Rattle.division.specs.Judgement.{IsTaken}
-use Rattle.division.specs.Quotient.{isZero, quotientOutcome, quotientOf}
+use Rattle.division.specs.Quotient.{isZero, markedQuotient, quotientOf}
 use Rattle.division.specs.declared.answer.Quotient.{Quotient}
 use Rattle.division.specs.declared.answer.Quotient.the-variants as answer
 use Rattle.steps.specs.Steps.{seed, afterStep, Fails}
@@ -40,9 +41,11 @@ pub record IsAnswered (p d : Number) (code n : ℕ) : Type 0 where
   -- the value of the table after every step
   pub step-given : (k : ℕ) → 1 ≤ k → k ≤ 32
       → (x : Number) × (afterStep p d (taskOf code n) k ≡ given x) × (stepOf p d code n k ≡ given x) × ((r : Step) → stepOutcome r ≡ stepOf p d code n k → r ≡ step.Given x)
-  -- the exact quotient rounded once, by the mode that the code names
-  pub quotient-given : (mode : Mode) × (taskOf code n ≡ byMode mode n) × (quotientOf p d code n ≡ given (round mode n (quotient (value p) (value d))))
-      × ((r : Quotient) → quotientOutcome r ≡ quotientOf p d code n → r ≡ answer.Given (round mode n (quotient (value p) (value d))))
+  -- the exact quotient rounded once, by the mode that the code names, with where that lies against it
+  pub quotient-given :
+      let x = quotient (value p) (value d) in
+      (mode : Mode) × (taskOf code n ≡ byMode mode n) × (quotientOf p d code n ≡ given (round mode n x))
+      × ((r : Quotient) → markedQuotient r ≡ marked x (quotientOf p d code n) → r ≡ answer.Given (round mode n x) (accuracyOf (value (round mode n x)) x))
 
 -- a working number, or one of the refusals up to `last`: "7 and 8 never leave a division"
 unfoldable pub IsAnswer : ℕ → Outcome → Type 0

@@ -2,7 +2,7 @@
 ghost use mathlib.Core.Path.{_≡_};
 ghost use mathlib.Core.Bool.{true, false};
 ghost use Prim.Native.Nat.{_≤_};
-ghost use Rattle.numbers.specs.Answer.{outcome};
+ghost use Rattle.numbers.specs.Accuracy.{outcome};
 ghost use Rattle.numbers.specs.Number.{isAdmissible};
 ghost use Rattle.numbers.specs.declared.number.Number.{Number};
 ghost use Rattle.numbers.specs.declared.task.Task.{Task};
@@ -17,6 +17,7 @@ use super::tasks::EXACT_32;
 use super::tasks::EXACT_64;
 use super::tasks::TRUNC_32;
 use arithmetic::operation::Operation;
+use numbers::answer::Accuracy;
 use numbers::answer::Answer;
 use numbers::number::Number;
 use numbers::task::Task;
@@ -48,7 +49,7 @@ pub(crate) fn high_half(d: Number) -> Answer
     requires { ⌜ isAdmissible d ≡ true ⌝ }
     ensures { λ r. ⌜ ((p : Number) (task : Task) → outcome r ≡ afterStep p d task 7) × IsResult (outcome r) ⌝ }
 {
-    rounded(Answer::Given(d), TRUNC_32)
+    rounded(Answer::Given(d, Accuracy::Exact), TRUNC_32)
 }
 
 // Step 8.
@@ -56,7 +57,12 @@ pub(crate) fn low_half(d: Number, high: Answer) -> Answer
     requires { ⌜ (isAdmissible d ≡ true) × ((p : Number) (task : Task) → outcome high ≡ afterStep p d task 7) × IsResult (outcome high) ⌝ }
     ensures { λ r. ⌜ ((p : Number) (task : Task) → outcome r ≡ afterStep p d task 8) × IsResult (outcome r) ⌝ }
 {
-    combined(Operation::Difference, Answer::Given(d), high, EXACT_32)
+    combined(
+        Operation::Difference,
+        Answer::Given(d, Accuracy::Exact),
+        high,
+        EXACT_32,
+    )
 }
 
 // A digit of the remainder.

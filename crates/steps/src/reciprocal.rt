@@ -2,7 +2,7 @@
 ghost use mathlib.Core.Path.{_≡_};
 ghost use mathlib.Core.Bool.{true, false};
 ghost use Prim.Native.Nat.{_≤_};
-ghost use Rattle.numbers.specs.Answer.{outcome};
+ghost use Rattle.numbers.specs.Accuracy.{outcome};
 ghost use Rattle.numbers.specs.Number.{isAdmissible};
 ghost use Rattle.numbers.specs.Rounding.{byMode};
 ghost use Rattle.numbers.specs.declared.number.Number.{Number};
@@ -18,6 +18,7 @@ use super::tasks::AWAY_32;
 use super::tasks::EXACT_64;
 use super::tasks::TRUNC_32;
 use arithmetic::operation::Operation;
+use numbers::answer::Accuracy;
 use numbers::answer::Answer;
 use numbers::number::Number;
 
@@ -36,7 +37,7 @@ pub(crate) fn reciprocal_step(d: Number, wanted: u32) -> Answer
     if wanted == 1 {
         return seed(d);
     }
-    let dr = rounded(Answer::Given(d), AWAY_32);
+    let dr = rounded(Answer::Given(d, Accuracy::Exact), AWAY_32);
     if wanted == 2 {
         return dr;
     }
@@ -61,6 +62,11 @@ fn refined(s: Answer, t: Answer) -> Answer
     requires { ⌜ IsResult (outcome s) × IsResult (outcome t) × HasComplement (outcome t) ⌝ }
     ensures { λ r. ⌜ (outcome r ≡ lineOfBoth (byMode Trunc 32) refined (outcome s) (outcome t)) × IsResult (outcome r) ⌝ }
 {
-    let c = combined(Operation::Difference, Answer::Given(TWO_LESS), t, EXACT_64);
+    let c = combined(
+        Operation::Difference,
+        Answer::Given(TWO_LESS, Accuracy::Exact),
+        t,
+        EXACT_64,
+    );
     combined(Operation::Product, s, c, TRUNC_32)
 }

@@ -2,12 +2,14 @@
 ghost use mathlib.Core.Path.{_≡_};
 ghost use mathlib.Core.Bool.{true, false};
 ghost use Rattle.numbers.specs.Number.{isAdmissible};
-ghost use Rattle.numbers.specs.Answer.{outcome, rounded};
+ghost use Rattle.numbers.specs.Accuracy.{outcome};
+ghost use Rattle.numbers.specs.Answer.{rounded};
 ghost use Rattle.numbers.specs.Rounding.{claim};
 ghost use Rattle.division.specs.Quotient.{isZero};
 ghost use Rattle.steps.specs.Run.{IsResult};
 ghost use Rattle.steps.specs.Steps.{seed};
 use division::seed::entry_for;
+use numbers::answer::Accuracy;
 use numbers::answer::Answer;
 use numbers::number::Number;
 
@@ -23,12 +25,15 @@ pub(crate) fn seed(d: Number) -> Answer
         significand,
     } = d
     else {
-        return Answer::Given(Number::Zero);
+        return Answer::Given(Number::Zero, Accuracy::Exact);
     };
     let t = entry_for(significand);
-    Answer::Given(Number::Finite {
-        negative,
-        exponent: -1 - exponent,
-        significand: (t as u64) << 56,
-    })
+    Answer::Given(
+        Number::Finite {
+            negative,
+            exponent: -1 - exponent,
+            significand: (t as u64) << 56,
+        },
+        Accuracy::Exact,
+    )
 }

@@ -3,7 +3,7 @@
 ghost use mathlib.Core.Path.{_≡_};
 ghost use mathlib.Core.Bool.{true, false};
 ghost use Prim.Native.Nat.{_-_, _≤_};
-ghost use Rattle.numbers.specs.Answer.{outcome};
+ghost use Rattle.numbers.specs.Accuracy.{outcome};
 ghost use Rattle.numbers.specs.Number.{isAdmissible};
 ghost use Rattle.division.specs.Quotient.{isZero};
 ghost use Rattle.division.specs.Judgement.{IsTask};
@@ -29,6 +29,7 @@ use super::tasks::TRUNC_32;
 use arithmetic::operation::Operation;
 use division::judgement::Judgement;
 use division::judgement::judged;
+use numbers::answer::Accuracy;
 use numbers::answer::Answer;
 use numbers::number::Number;
 use numbers::task::Task;
@@ -72,7 +73,7 @@ fn answered(a: Answer) -> Step
     ensures { λ r. ⌜ stepOutcome r ≡ outcome a ⌝ }
 {
     match a {
-        Answer::Given(x) => Step::Given(x),
+        Answer::Given(x, _) => Step::Given(x),
         Answer::UnknownMode => Step::UnknownMode,
         Answer::BadPrecision => Step::BadPrecision,
         Answer::FirstUnfit => Step::FirstUnfit,
@@ -104,7 +105,7 @@ fn digits_step(p: Number, d: Number, task: Task, wanted: u32) -> Answer
     requires { ⌜ (isAdmissible p ≡ true) × (isAdmissible d ≡ true) × (isZero d ≡ false) × IsTask task × (9 ≤ wanted) × (wanted ≤ 32) ⌝ }
     ensures { λ r. ⌜ outcome r ≡ afterStep p d task wanted ⌝ }
 {
-    let remainder = rounded(Answer::Given(p), EXACT_64);
+    let remainder = rounded(Answer::Given(p, Accuracy::Exact), EXACT_64);
     if wanted == 9 {
         return remainder;
     }

@@ -1,5 +1,5 @@
 -- Two aligned operands: the shifted smaller one leaves room in two words, a rest means that they stand far apart, and the sum or the difference is
--- rounded as its cell says.
+-- rounded and marked as its cell says.
 use mathlib.Core.Path.{_≡_, refl, sym, ap, _∙_}
 use mathlib.Core.Bool.{Bool, true, false, not}
 use Prim.Native.Nat.{ℕ, zero, suc, _+_, _-_, _*_, _/_, _%_, _^_, _≤_, _<_}
@@ -11,14 +11,14 @@ use lib.Pow.{pow-pos, pow-mono}
 use Rattle.numbers.specs.Biased.{bias}
 use Rattle.numbers.specs.Rounding.{precisionOf}
 use Rattle.numbers.specs.Fraction.{signed, sum, scaled}
-use Rattle.numbers.specs.Answer.{rounded}
+use Rattle.numbers.specs.Accuracy.{markedBy}
 use Rattle.numbers.specs.Grid.{InCell, bitOf}
 use Rattle.numbers.specs.Cell.{wide, endOf}
 use Rattle.numbers.specs.declared.task.Task.{Task}
 use Rattle.numbers.proofs.Laws.Whole.{cell-of}
 use Rattle.numbers.proofs.Laws.Pairs.{fraction}
 use Rattle.numbers.proofs.Laws.Fractions.{same-sum, other-sum, sum-fraction}
-use Rattle.numbers.proofs.Laws.Value.{same-outcome}
+use Rattle.numbers.proofs.Laws.Marked.{same-mark}
 use Rattle.numbers.proofs.Laws.Powers.{power-sum}
 use Rattle.arithmetic.specs.Private.{lastBit, operandValue, IsOperand, IsAligned, exactValue, IsExact}
 use Rattle.arithmetic.specs.declared.operand.Operand.{Operand}
@@ -95,20 +95,20 @@ module _ (large small : Operand) (h : IsAligned large small) (Y : ℕ) (rest : B
   grid-cell = shifted-cell rest (small .significand) (small .exponent) (large .exponent) Y (h .lower) cell
 
   added-rounds : (task : Task) → 1 ≤ precisionOf task → precisionOf task ≤ 64 → small .negative ≡ large .negative
-      → rounded task (scaled (large .negative) (endOf (large .significand * 2 ^ 63 + Y) rest) (large .exponent + bias) lastBit) ≡ rounded task (sum (operandValue large) (operandValue small))
+      → markedBy task (scaled (large .negative) (endOf (large .significand * 2 ^ 63 + Y) rest) (large .exponent + bias) lastBit) ≡ markedBy task (sum (operandValue large) (operandValue small))
   unfolding operandValue
   added-rounds task n0 n1 sign =
       let s = large .negative in
       let F = large .significand * 2 ^ 63 + Y in
       let A = large .significand * 2 ^ (large .exponent + 65598) in
       let B = small .significand * 2 ^ (small .exponent + 65598) in
-      sym (cell-rounds task s (A + B) F (large .exponent + bias) rest n0 (fine (precisionOf task) n1 F (omega arith)) (rw (raised-power (large .significand) (large .exponent)) (cell-added rest (large .significand * 2 ^ 63) B Y (2 ^ (large .exponent + bias)) grid-cell)))
+      sym (cell-rounds task s (A + B) F (large .exponent + bias) rest n0 n1 (fine (precisionOf task) n1 F (omega arith)) (rw (raised-power (large .significand) (large .exponent)) (cell-added rest (large .significand * 2 ^ 63) B Y (2 ^ (large .exponent + bias)) grid-cell)))
       ∙ rw sign
-      (sym (same-outcome task (sum (fraction (signed s A) (2 ^ lastBit)) (fraction (signed s B) (2 ^ lastBit))) (fraction (signed s (A + B)) (2 ^ lastBit))
+      (sym (same-mark task (sum (fraction (signed s A) (2 ^ lastBit)) (fraction (signed s B) (2 ^ lastBit))) (fraction (signed s (A + B)) (2 ^ lastBit))
       (sum-fraction (fraction (signed s A) (2 ^ lastBit)) (fraction (signed s B) (2 ^ lastBit)) (pow-pos lastBit) (pow-pos lastBit)) (pow-pos lastBit) n0 (same-sum s A B (2 ^ lastBit))))
 
   subtracted-rounds : (task : Task) → 1 ≤ precisionOf task → precisionOf task ≤ 64 → small .negative ≡ not (large .negative) → (m : ℕ) → m + bitOf rest + Y ≡ large .significand * 2 ^ 63
-      → rounded task (scaled (large .negative) (endOf m rest) (large .exponent + bias) lastBit) ≡ rounded task (sum (operandValue large) (operandValue small))
+      → markedBy task (scaled (large .negative) (endOf m rest) (large .exponent + bias) lastBit) ≡ markedBy task (sum (operandValue large) (operandValue small))
   unfolding operandValue
   subtracted-rounds task n0 n1 sign m e =
       let s = large .negative in
@@ -118,9 +118,9 @@ module _ (large small : Operand) (h : IsAligned large small) (Y : ℕ) (rest : B
       let L = large .significand * 2 ^ 63 in
       let on-grid : A ≡ L * G = raised-power (large .significand) (large .exponent) in
       let less : B ≤ L * G = under rest B Y G L grid-cell borrow-fits in
-      sym (cell-rounds task s (A - B) m (large .exponent + bias) rest n0 (fine (precisionOf task) n1 m (flag rest m Y L e)) (rw on-grid (cell-subtracted rest L B Y G m less e grid-cell)))
+      sym (cell-rounds task s (A - B) m (large .exponent + bias) rest n0 n1 (fine (precisionOf task) n1 m (flag rest m Y L e)) (rw on-grid (cell-subtracted rest L B Y G m less e grid-cell)))
       ∙ rw sign
-      (sym (same-outcome task (sum (fraction (signed s A) (2 ^ lastBit)) (fraction (signed (not s) B) (2 ^ lastBit))) (fraction (signed s (A - B)) (2 ^ lastBit))
+      (sym (same-mark task (sum (fraction (signed s A) (2 ^ lastBit)) (fraction (signed (not s) B) (2 ^ lastBit))) (fraction (signed s (A - B)) (2 ^ lastBit))
       (sum-fraction (fraction (signed s A) (2 ^ lastBit)) (fraction (signed (not s) B) (2 ^ lastBit)) (pow-pos lastBit) (pow-pos lastBit)) (pow-pos lastBit) n0 (other-sum s A B (2 ^ lastBit) (rw on-grid less))))
 
 -- ---- from the code's equations: T, S and Y are the larger operand raised, the smaller one raised, and the smaller one shifted

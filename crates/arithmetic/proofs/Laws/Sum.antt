@@ -1,5 +1,5 @@
 -- A sum of aligned magnitudes: the larger one stands on the grid 2^x, the smaller one in a cell of it, and so does their sum or difference, which
--- is rounded as what stands for its cell.
+-- is rounded and marked as what stands for its cell.
 use mathlib.Core.Path.{_≡_, sym, ap, _∙_}
 use mathlib.Core.Bool.{Bool, true, false}
 use Prim.Native.Nat.{ℕ, _+_, _-_, _*_, _^_, _≤_}
@@ -10,7 +10,7 @@ use lib.Pow.{pow-pos}
 use Rattle.numbers.specs.Biased.{bias}
 use Rattle.numbers.specs.Rounding.{precisionOf}
 use Rattle.numbers.specs.Fraction.{signed, scaled}
-use Rattle.numbers.specs.Answer.{rounded}
+use Rattle.numbers.specs.Accuracy.{markedBy}
 use Rattle.numbers.specs.Grid.{InCell, bitOf}
 use Rattle.numbers.specs.Cell.{endOf}
 use Rattle.numbers.specs.declared.task.Task.{Task}
@@ -22,10 +22,10 @@ use Rattle.numbers.proofs.Laws.Powers.{power-sum}
 use Rattle.arithmetic.specs.Private.{lastBit}
 
 -- a sum in its cell, whether or not there is a rest
-pub cell-rounds : (task : Task) (s : Bool) (p F x : ℕ) (rest : Bool) → 1 ≤ precisionOf task → (rest ≡ true → 2 * 2 ^ precisionOf task ≤ F) → InCell rest p F (2 ^ x)
-    → rounded task (fraction (signed s p) (2 ^ lastBit)) ≡ rounded task (scaled s (endOf F rest) x lastBit)
-cell-rounds task s p F x rest n0 fine h =
-    grid-rounds task s (fraction (signed s p) (2 ^ lastBit)) F x lastBit (pow-pos lastBit) (ap (signed s) (sym (abs-signed s p))) n0 rest fine
+pub cell-rounds : (task : Task) (s : Bool) (p F x : ℕ) (rest : Bool) → 1 ≤ precisionOf task → precisionOf task ≤ 64 → (rest ≡ true → 2 * 2 ^ precisionOf task ≤ F) → InCell rest p F (2 ^ x)
+    → markedBy task (fraction (signed s p) (2 ^ lastBit)) ≡ markedBy task (scaled s (endOf F rest) x lastBit)
+cell-rounds task s p F x rest n0 n1 fine h =
+    grid-rounds task s (fraction (signed s p) (2 ^ lastBit)) F x lastBit (pow-pos lastBit) (ap (signed s) (sym (abs-signed s p))) n0 n1 rest fine
     (rw (abs-signed s p) (cell-ratio rest p F (2 ^ x) (p * 2 ^ lastBit) (2 ^ lastBit * 2 ^ x) (2 ^ lastBit) 1 (pow-pos lastBit) (lit< tt) (sym (mul-one (p * 2 ^ lastBit))) (mul-comm (2 ^ x) (2 ^ lastBit) ∙ sym (mul-one (2 ^ lastBit * 2 ^ x))) h))
 
 -- ---- alignment: l on the grid g, and b in the cell Y of it

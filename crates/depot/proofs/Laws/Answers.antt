@@ -1,15 +1,15 @@
--- What `divide` and `add` answer on a depot's numbers: the rates, sums and means of the definitions, and never a refusal. Of division this takes the
+-- What `divide` and `add` answer on a depot's numbers: the sums and means of the definitions, and never a refusal. Of division this takes the
 -- definition of the quotient and nothing else.
-use mathlib.Core.Path.{_≡_, refl, ap, ap₂, _∙_}
+use mathlib.Core.Path.{_≡_, refl, ap, _∙_}
 use mathlib.Core.Bool.{true, false}
-use Prim.Native.Nat.{ℕ, suc, _+_, _*_, _-_, _^_, _≤_, _<_}
+use Prim.Native.Nat.{ℕ, suc, _+_, _*_, _^_, _≤_, _<_}
 use native.Mathlib.Nat.{mul-le-mul-left, mul-le-mul-right, mul-pos, le-trans}
 use native.Mathlib.Omega.{arith}
 use lib.Dec.{lit≤, lit<}
-use lib.IntN.{pos, natAbs}
+use lib.IntN.{natAbs}
 use lib.Pow.{pow-add, pow-mono}
 use Rattle.numbers.specs.Number.{isWorkingExponent, isAdmissibleExponent, isWorking, isAdmissible}
-use Rattle.numbers.specs.Fraction.{Fraction, IsFraction, Equal, value, sum, dividedBy, quotient}
+use Rattle.numbers.specs.Fraction.{Fraction, IsFraction, Equal, value, sum, quotient}
 use Rattle.numbers.specs.Rounding.{round, taskOf, isPrecision}
 use Rattle.numbers.specs.Answer.{given, rounded, unlessUnknown, unlessUnfit}
 use Rattle.numbers.specs.declared.number.Number.{Number}
@@ -17,14 +17,12 @@ use Rattle.numbers.specs.declared.number.Number.the-variants.{Zero, Finite}
 use Rattle.numbers.specs.declared.task.Mode.{Mode}
 use Rattle.numbers.specs.declared.task.Mode.the-variants.{Up, Down}
 use Rattle.numbers.proofs.Laws.Scaled.{value-fraction}
-use Rattle.numbers.proofs.Laws.Pairs.{fraction}
 use Rattle.numbers.proofs.Laws.Fits.{working-checked}
 use Rattle.numbers.proofs.Laws.Fractions.{quotient-equal, quotient-fraction, equal-magnitudes}
 use Rattle.numbers.proofs.Laws.Value.{value-alone}
 use Rattle.arithmetic.specs.Operations.{operationOf, codedOf, sumOf}
 use Rattle.division.specs.Quotient.{isZero, unlessIndivisible, quotientOf}
-use Rattle.blocks.specs.declared.record.Record.{Record}
-use Rattle.depot.specs.Figures.{rate, whole, withRate, meanOf}
+use Rattle.depot.specs.Figures.{whole, withRate, meanOf}
 use Rattle.depot.proofs.Laws.Amounts.{numeratorOf, IsAmount, sum-amount, part-numerator, part-denominator, part-amount}
 use Rattle.depot.proofs.Laws.Close.{parts, round-amount, round-down, round-up}
 use Rattle.depot.proofs.Laws.Bracket.{IsSum, value-amount, round-sum, added}
@@ -93,13 +91,13 @@ sum-answer high a b fa fb w = rw (fa, fb) (working-checked (added Up a b) w)
 abbrev pub IsWhole : ℕ → Number → Type 0
 IsWhole n x = (isAdmissible x ≡ true) × Equal (value x) (whole n)
 
-whole-some : (n : ℕ) (x : Number) → 0 < n → IsWhole n x → 0 < natAbs (value x .numerator)
+pub whole-some : (n : ℕ) (x : Number) → 0 < n → IsWhole n x → 0 < natAbs (value x .numerator)
 unfolding whole
 whole-some n x n0 w =
     let cross : natAbs (value x .numerator) * 1 ≡ n * value x .denominator = equal-magnitudes (value x) (whole n) (w .1) in
     omega (arith, mul-pos n0 (value-fraction x))
 
-whole-nonzero : (n : ℕ) (x : Number) → 0 < n → IsWhole n x → isZero x ≡ false
+pub whole-nonzero : (n : ℕ) (x : Number) → 0 < n → IsWhole n x → isZero x ≡ false
 unfolding isZero value
 whole-nonzero n Zero n0 w = absurd (let l : 0 < 0 = whole-some n Zero n0 w in omega arith)
 whole-nonzero n (Finite s e S) n0 w = refl
@@ -127,24 +125,17 @@ part-answer {code} {mode} side k n p d x fp x0 e n0 wd amount r few =
         (quotient-fraction (value p) (value d) (value-fraction p) some) (quotient-fraction x (whole n) x0 n0)
         (quotient-equal (value p) (value d) x (whole n) (value-fraction p) (value-fraction d) x0 (lit< tt) some e (wd .1)) .rounds mode
 
--- "its rate is fuel / (end − start)": divided on a side, it is what the side adds
-pub rate-answer : {code : ℕ} {mode : Mode} → IsSide code mode → (r : Record) (f d : Number) → IsRate (rate r) → IsWhole (r .fuel) f → IsWhole (r .end - r .start) d
-    → quotientOf f d code 64 ≡ given (round mode 64 (rate r))
-unfolding whole rate quotient dividedBy
-rate-answer side r f d is wf wd =
-    rw plain at
-    (part-answer side 32 (r .end - r .start) f d (whole (r .fuel)) (wf .0) (lit< tt) (wf .1) (is .amount .fraction) wd
-    (rw plain (is .amount)) (rw plain (is .range)) (lit≤ tt))
-  where
-    plain : quotient (whole (r .fuel)) (whole (r .end - r .start)) ≡ rate r
-    plain = ap₂ fraction (ap pos (let e : r .fuel * 1 ≡ r .fuel = omega arith in e)) (let e : 1 * (r .end - r .start) ≡ r .end - r .start = omega arith in e)
+-- a rate on a side
+module _ {code : ℕ} {mode : Mode} (side : IsSide code mode) (x : Fraction) (is : IsRate x) where
+  pub rate-range : IsInRange (2 ^ 33) (value (round mode 64 x))
+  rate-range = round-range side (2 ^ 32) x (is .amount) (is .range)
+
+  pub rate-working : isWorking (round mode 64 x) ≡ true
+  rate-working = range-working 33 (round mode 64 x) (lit≤ tt) (round-sum mode x (is .amount)) rate-range
 
 -- a sum with one rate more: its range grows by two bits at most
 module _ {code : ℕ} {mode : Mode} (side : IsSide code mode) (k : ℕ) (total : Number) (x : Fraction) (s : IsSum total) (r : IsInRange (2 ^ k) (value total)) (is : IsRate x)
     (wide : 33 ≤ k) where
-  addend : IsInRange (2 ^ 33) (value (round mode 64 x))
-  addend = round-range side (2 ^ 32) x (is .amount) (is .range)
-
   exact : IsAmount (sum (value total) (value (round mode 64 x)))
   exact = sum-amount (value total) (value (round mode 64 x)) (value-amount total s) (round-amount mode x (is .amount))
 
@@ -159,14 +150,14 @@ module _ {code : ℕ} {mode : Mode} (side : IsSide code mode) (k : ℕ) (total :
       rw (← four)
       (round-range side (2 * 2 ^ k) (sum (value total) (value (round mode 64 x))) exact
       (sum-in-range (2 ^ k) (value total) (value (round mode 64 x)) (value-amount total s) (round-amount mode x (is .amount)) r
-      (wider (2 ^ 33) (2 ^ k) (value (round mode 64 x)) (pow-mono wide) addend)))
+      (wider (2 ^ 33) (2 ^ k) (value (round mode 64 x)) (pow-mono wide) (rate-range side x is))))
 
   -- a sum has a bit more, and may carry
   pub total-answer : k ≤ 65533 → sumOf total (round mode 64 x) code 64 ≡ given (withRate mode total x)
   unfolding withRate
   total-answer few =
       sum-answer side total (round mode 64 x) (range-working k total (omega arith) s r)
-      (range-working 33 (round mode 64 x) (lit≤ tt) (round-sum mode x (is .amount)) addend)
+      (rate-working side x is)
       (range-working (k + 2) (added mode total (round mode 64 x)) (omega arith) total-sum total-range)
 
 -- "that sum divided down 64 by the moved count"

@@ -1,4 +1,4 @@
--- The quotient of two admissible numbers lies in the cell of its digits, and so the rounding of that cell is its rounding.
+-- The quotient of two admissible numbers lies in the cell of its digits, and so the rounding of that cell is its rounding, with its mark.
 use mathlib.Core.Path.{_≡_, refl, sym, subst, ap, ap₂, _∙_}
 use mathlib.Core.Bool.{Bool, true, false, false≢true}
 use Prim.Native.Nat.{ℕ, suc, _+_, _-_, _*_, _/_, _%_, _^_, _≤_, _<_}
@@ -13,6 +13,7 @@ use mir.Facts.{toZ-ofZ}
 use mir.Syntax.{w32}
 use mir.Val.{SFits, toZ, ofZ}
 use Rattle.numbers.specs.Biased.{bias, origin}
+use Rattle.numbers.specs.Accuracy.{markedBy}
 use Rattle.numbers.specs.Answer.{rounded}
 use Rattle.numbers.specs.Cell.{endOf, cellRounding}
 use Rattle.numbers.specs.Fraction.{Fraction, IsFraction, value, quotient, signed, IsScaled}
@@ -136,12 +137,12 @@ module _ (p d : Number) (t s : Bool) (e f : ℤ) (P D : ℕ) (p-is : p ≡ Finit
     fine : (n : ℕ) → n ≤ 64 → 2 * 2 ^ n ≤ Q
     fine n n1 = let k = enough (2 ^ 63) (2 ^ 80) P D Q R (pow-pos 80) (p-parts .2 .top) (d-parts .2 .word) (digits .parts) (digits .below) in omega (arith, pow-mono {i = n} n1)
 
-    pub quotient-rounds : (task : Task) → IsTask task → (z : ℤ) → z ≡ minus a (b + 81) → cellRounding (unlike t s) Q (ltb 0 R) z task ≡ rounded task (quotient (value p) (value d))
+    pub quotient-rounds : (task : Task) → IsTask task → (z : ℤ) → z ≡ minus a (b + 81) → cellRounding (unlike t s) Q (ltb 0 R) z task ≡ markedBy task (quotient (value p) (value d))
     unfolding cellRounding
     quotient-rounds task n z is =
         rw (p-is, d-is, is, range-precision (precisionOf task) (n .0) (n .1))
         (sym (scaled-binary task (unlike t s) (endOf Q (ltb 0 R)) a (b + 81) (n .0))
-        ∙ sym (grid-rounds task (unlike t s) x Q a (b + 81) x0 sign (n .0) (ltb 0 R) (λ (h : ltb 0 R ≡ true). fine (precisionOf task) (n .1)) cell))
+        ∙ sym (grid-rounds task (unlike t s) x Q a (b + 81) x0 sign (n .0) (n .1) (ltb 0 R) (λ (h : ltb 0 R ≡ true). fine (precisionOf task) (n .1)) cell))
 
     -- in every mode the quotient is given: its exponent is far inside the working range
     finite-given : (mode : Mode) (n : ℕ) → 1 ≤ n → n ≤ 64 → IsGiven (rounded (byMode mode n) x)

@@ -5,9 +5,10 @@ use mathlib.Core.List.{List}
 use mathlib.Core.Option.{Option, none, some}
 use Prim.Native.Nat.{ℕ}
 use lib.Dec.{eqb}
+use lib.IntN.{ℤ}
 use lib.ListN.{length}
 use borrow.Author.Tests.{eqb-true}
-use Rattle.numbers.specs.Answer.{Outcome}
+use Rattle.numbers.specs.Accuracy.{Marked}
 use Rattle.numbers.specs.declared.number.Number.{Number}
 use Rattle.numbers.proofs.Laws.Tests.{never}
 use Rattle.export.specs.Layout.{numberIn}
@@ -33,20 +34,20 @@ read-none (some y) h = never cc
 -- ---- the call
 
 -- what the operands leave
-unfoldable pub carried : (Number → Number → Outcome) → Operands → List ℕ → Call
-carried operation (Numbers x y) old = leftBy (operation x y) old
-carried operation WrongLength old = call 9 old
-carried operation NoNumber old = call 64 old
+unfoldable pub carried : (Number → Number → Marked) → Operands → List ℕ → ℤ → Call
+carried operation (Numbers x y) old was = leftBy (operation x y) old was
+carried operation WrongLength old was = call 9 old was
+carried operation NoNumber old was = call 64 old was
 
 -- a call is what its operands leave; they are the case p
-pub call-by : (operation : Number → Number → Outcome) (a b old : List ℕ) (r p : Operands) → r ≡ operandsOf a b (length old) → r ≡ p
-    → carried operation p old ≡ callOf operation a b old
+pub call-by : (operation : Number → Number → Marked) (a b old : List ℕ) (was : ℤ) (r p : Operands) → r ≡ operandsOf a b (length old) → r ≡ p
+    → carried operation p old was ≡ callOf operation a b old was
 unfolding carried callOf operandsOf operated pairOf
-call-by operation a b old r p is e =
-    ap (λ (o : Operands). carried operation o old) (sym e ∙ is)
+call-by operation a b old was r p is e =
+    ap (λ (o : Operands). carried operation o old was) (sym e ∙ is)
     ∙ go (isSixteen (length a) && (isSixteen (length b) && isSixteen (length old))) (numberIn a) (numberIn b)
   where
-    go : (t : Bool) (p q : Option Number) → carried operation (cond t (pairOf p q) WrongLength) old ≡ cond t (operated operation p q old) (call 9 old)
+    go : (t : Bool) (p q : Option Number) → carried operation (cond t (pairOf p q) WrongLength) old was ≡ cond t (operated operation p q old was) (call 9 old was)
     go false p q = refl
     go true (some x) (some y) = refl
     go true (some x) none = refl

@@ -6,16 +6,16 @@ use Rattle.export.proofs.navehuro_subtract.Tie as tie
 
 leave-requires : tie.Need-leave-requires
 leave-requires c κs =
-    let found = c .before .before .before .before in
+    let found = c .before .before .before .before .before in
     numbers-room _ _ _ _ _ _ (found .before .before .operands-in .ensures) (found .operands .given .1)
 
 returns : tie.Need-returns
 unfolding carried
 returns c =
-    let done = c .before .before .before .before in
+    let done = c .before .before .before .before .before in
     let found = done .before .before .before in
     rw (c .before .before .leave .ensures, done .outcome-of .ensures, done .before .subtract .ensures)
-    (call-by _ _ _ _ _ _ (found .before .before .operands-in .ensures) (found .operands .given .1))
+    (call-by _ _ _ _ _ _ _ (found .before .before .operands-in .ensures) (found .operands .given .1))
 
 pub navehuro-subtract-spec : {M : Type 1} → statement M
 unfolding carried
@@ -23,5 +23,5 @@ navehuro-subtract-spec =
     tie.close
     (tie.spec (λ c κs. search needs) (λ c. search needs) (λ c κs. search needs) (λ c κs. search needs) leave-requires (λ c. search needs) (λ c. search needs)
     (λ c. search needs) returns
-    (λ c. call-by _ _ _ _ _ _ (c .before .before .operands-in .ensures) (c .enum-told .given .1))
-    (λ c. call-by _ _ _ _ _ _ (c .before .before .operands-in .ensures) (c .enum-told2 .given .1)))
+    (λ c. call-by _ _ _ _ _ _ _ (c .before .before .operands-in .ensures) (c .enum-told .given .1))
+    (λ c. call-by _ _ _ _ _ _ _ (c .before .before .operands-in .ensures) (c .enum-told2 .given .1)))

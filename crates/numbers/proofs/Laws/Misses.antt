@@ -13,7 +13,7 @@ use Rattle.numbers.specs.declared.task.Mode.the-variants.{Trunc, Away, N
 use Rattle.numbers.proofs.Laws.Ratio.{gap, Ordered}
 
 -- no mode goes up where there is no fraction
-fraction-left : (mode : Mode) (s : Bool) (q r b : ℕ) → 0 < b → T (goesUp mode s q r b) → 0 < r
+pub fraction-left : (mode : Mode) (s : Bool) (q r b : ℕ) → 0 < b → T (goesUp mode s q r b) → 0 < r
 unfolding goesUp
 fraction-left Trunc s q r b b0 t = absurd t
 fraction-left Away s q r b b0 t = ltb→lt 0 r t

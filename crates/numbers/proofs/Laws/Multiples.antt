@@ -17,7 +17,7 @@ use Rattle.numbers.specs.declared.number.Number.{Number}
 use Rattle.numbers.specs.declared.task.Mode.{Mode}
 use Rattle.numbers.proofs.Laws.Bounds.{close-above}
 use Rattle.numbers.proofs.Laws.Exponent.{exponent-below}
-use Rattle.numbers.proofs.Laws.Powers.{word-parts, power-product, up-power, down-power, powers-divide}
+use Rattle.numbers.proofs.Laws.Powers.{pow-below, power-twice, word-parts, power-product, up-power, down-power, powers-divide}
 use Rattle.numbers.proofs.Laws.Rounded.{IsUnits, exponent, whole, round-units}
 use Rattle.numbers.proofs.Laws.Scaled.{zero-value, zero-scaled, signed-scaled, finer, scaled-size, value-fraction}
 use Rattle.numbers.proofs.Laws.Tasks.{given-scaled}
@@ -154,3 +154,28 @@ multiple-rounded mode n {bits} {i} {o} {x} h n0 n1 = go (natAbs (x .numerator)) 
     go : (a : ℕ) → X ≡ a → IsMultiple (bits + 64) i (o + 63) (value y)
     go zero e = multiple-of {s = false} (zero-scaled (value-fraction y) (zero-rounded mode n x e)) (omega arith)
     go (suc a) e = some-rounded (omega arith)
+
+-- the unit u / (p v) of the last place is above a grid I / O, where X / d is 2 p grids or more and below twice u / v
+grid-below-unit : (X d p u v I O : ℕ) → 0 < O → 2 * p * (d * I) ≤ X * O → X * v < 2 * (d * u) → I * (p * v) < u * O
+grid-below-unit X d p u v I O O0 fine below = lt-of-mul-lt-mul-right (2 * d) (omega (arith, mul-le-mul-right v fine, mul-lt-mul-of-pos-right {k = O} below O0))
+
+-- A rounding to n bits of a value of 2^n grids or more is a whole number of grids.
+pub round-multiple : (mode : Mode) (n i o : ℕ) (x : Fraction) → IsFraction x → 1 ≤ n → n ≤ 64 → 2 ^ n * (x .denominator * 2 ^ i) ≤ natAbs (x .numerator) * 2 ^ o
+    → (N : ℕ) × IsScaled (value (round mode n x)) (isNegative (x .numerator)) N i o
+round-multiple mode n i o x x0 n0 n1 fine = at (up-power (exponent x)) (power-product (2 ^ (n - 1)) (down (exponent x)) (n - 1, refl) (down-power (exponent x)))
+  where
+    some : 0 < natAbs (x .numerator)
+    some = lt-of-mul-lt-mul-right (2 ^ o) (omega (arith, fine, mul-pos (pow-pos n) (mul-pos x0 (pow-pos i))))
+
+    units : IsUnits (round mode n x) (isNegative (x .numerator)) n (exponent x) (whole mode n x)
+    units = round-units mode n x x0 n0 n1
+
+    at : (a : ℕ) × (up (exponent x) ≡ 2 ^ a) → (c : ℕ) × (2 ^ (n - 1) * down (exponent x) ≡ 2 ^ c) → (N : ℕ) × IsScaled (value (round mode n x)) (isNegative (x .numerator)) N i o
+    at (a, u) (c, v) =
+        let coarse : i + c < a + o =
+        pow-below (i + c) (a + o)
+        (rw (pow-add 2 i c, pow-add 2 a o, ← u, ← v)
+        (grid-below-unit (natAbs (x .numerator)) (x .denominator) (2 ^ (n - 1)) (up (exponent x)) (down (exponent x)) (2 ^ i) (2 ^ o) (pow-pos o)
+        (rw (← power-twice n n0) fine) (exponent-below (natAbs (x .numerator)) (x .denominator) some x0)))
+        in
+        (whole mode n x * 2 ^ (a + o - (i + c)), finer {i = a} {o = c} (signed-scaled (value-fraction (round mode n x)) (units .sign) (rw (← u, ← v) (units .ratio))) (a + o - (i + c)) (omega arith))

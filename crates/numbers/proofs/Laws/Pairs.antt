@@ -2,12 +2,13 @@
 use mathlib.Core.Path.{_≡_, refl, sym, ap, ap₂, _∙_}
 use mathlib.Core.Bool.{Bool, cond}
 use mathlib.Core.Logic.{_↔_}
-use Prim.Native.Nat.{ℕ, suc, _+_, _*_, _^_, _≤_}
+use Prim.Native.Nat.{ℕ, suc, _+_, _*_, _^_, _≤_, _<_}
 use native.Mathlib.Nat.{add-comm, eq-of-mul-eq-mul-right, le-of-eq, le-of-mul-le-mul-right, mul-le-mul-right, mul-pos}
 use native.Mathlib.Omega.{arith}
+use lib.Dec.{leb}
 use lib.IntN.{ℤ, pos, negsuc, natAbs, _*ℤ_, *ℤ-negsuc}
-use Rattle.numbers.specs.Fraction.{Fraction, IsFraction, Equal, AtMost, signed, isNegative, above, below, scaled, sum, difference, product, dividedBy, quotient}
-use Rattle.numbers.proofs.Laws.Splits.{IsSplit, own-split, same-split, order-split, sum-split, opposite-split, times-split, product-split, signed-split, signed-times}
+use Rattle.numbers.specs.Fraction.{Fraction, IsFraction, Equal, AtMost, Below, isAtMost, signed, isNegative, above, below, scaled, sum, difference, product, dividedBy, quotient}
+use Rattle.numbers.proofs.Laws.Splits.{IsSplit, own-split, same-split, order-test, order-split, strict-split, sum-split, opposite-split, times-split, product-split, signed-split, signed-times}
 use Rattle.numbers.proofs.Laws.Signs.{signed-abs}
 
 -- a fraction by its parts
@@ -51,6 +52,14 @@ module _ {x y : Fraction} {a b d p q e : ℕ} (h : IsPair x a b d) (k : IsPair y
   pub at-most-pair : AtMost x y ↔ (a * e + q * d ≤ p * d + b * e)
   unfolding AtMost
   at-most-pair = order-split left right
+
+  pub at-most-test : isAtMost x y ≡ leb (a * e + q * d) (p * d + b * e)
+  unfolding isAtMost
+  at-most-test = order-test left right
+
+  pub below-pair : Below x y ↔ (a * e + q * d < p * d + b * e)
+  unfolding Below
+  below-pair = strict-split left right
 
   pub equal-pair : Equal x y ↔ (a * e + q * d ≡ p * d + b * e)
   unfolding Equal

@@ -62,6 +62,10 @@ pub zero-value : natAbs (value Zero .numerator) ≡ 0
 unfolding value
 zero-value = refl
 
+pub zero-equal : (x : Fraction) → natAbs (x .numerator) ≡ 0 → Equal (value Zero) x
+unfolding Equal value
+zero-equal x none = zero-*ℤ (pos (x .denominator)) ∙ sym (ap (λ (z : ℤ). z *ℤ pos 1) (abs-zero (x .numerator) none) ∙ zero-*ℤ (pos 1))
+
 pub zero-scaled : {x : Fraction} {s : Bool} {i o : ℕ} → IsFraction x → natAbs (x .numerator) ≡ 0 → IsScaled x s 0 i o
 unfolding Equal
 zero-scaled {x} {s} {i} {o} x0 none = record {

@@ -3,12 +3,13 @@ use mathlib.Core.Path.{_≡_, refl, sym, ap, _∙_}
 use mathlib.Core.Bool.{Bool, true, false, not, cond}
 use mathlib.Core.Logic.{_↔_}
 use Prim.Native.Nat.{ℕ, zero, suc, _+_, _-_, _*_, _≤_, _<_}
+use native.Mathlib.Nat.{lt-of-not-le}
 use native.Mathlib.Omega.{arith}
 use lib.Dec.{T, leb, ltb, ltb→lt, nltb→le, leb→le, le→leb}
 use borrow.Author.Tests.{le-leb, lt-leb}
 use lib.Ieee.{unlike}
 use lib.IntN.{ℤ, pos, negsuc, negℤ, natAbs, subℕ, _+ℤ_, _-ℤ_, _*ℤ_, *ℤ-negsuc}
-use lib.Signed.{leZ, _≤ℤ_}
+use lib.Signed.{leZ, ltZ, ltZ-yes, ltZ-no, clashℤ, _≤ℤ_, _<ℤ_}
 use Rattle.numbers.specs.Fraction.{signed, above, below}
 use Rattle.numbers.proofs.Laws.Ratio.{gap}
 use Rattle.numbers.proofs.Laws.Tests.{leb-same}
@@ -52,6 +53,13 @@ order-test {z} {w} {a} {b} {c} {d} h k = go z w (h .cross) (k .cross)
 pub order-split : {z w : ℤ} {a b c d : ℕ} → IsSplit z a b → IsSplit w c d → (z ≤ℤ w) ↔ (a + d ≤ c + b)
 order-split {z} {w} {a} {b} {c} {d} h k =
     let e = order-test h k in (λ (l : z ≤ℤ w). leb→le (a + d) (c + b) (rw e at (l .le)), λ l. record { le = rw e (le→leb (a + d) (c + b) l) })
+
+pub strict-split : {z w : ℤ} {a b c d : ℕ} → IsSplit z a b → IsSplit w c d → (z <ℤ w) ↔ (a + d < c + b)
+strict-split {z} {w} {a} {b} {c} {d} h k = (λ (l : z <ℤ w). lt-of-not-le (λ (m : c + b ≤ a + d). clashℤ l (order-split k h .1 m)), λ l. go l (ltZ z w) ltZ-yes ltZ-no)
+  where
+    go : a + d < c + b → (t : Bool) → (T t → z <ℤ w) → (T (not t) → w ≤ℤ z) → z <ℤ w
+    go l true less more = less tt
+    go l false less more = absurd (let m : c + b ≤ a + d = order-split k h .0 (more tt) in omega arith)
 
 -- the difference of two natural numbers; the sum, opposite and products of whole ones
 pub sub-split : (a b : ℕ) → IsSplit (subℕ a b) a b

@@ -149,7 +149,7 @@ module _ (mode : Mode) (n : ℕ) {x : Fraction} {s : Bool} {A i o : ℕ} (h : Is
       (scaled-size h) scaled-unit)
       mode s)
 
-  round-scaled : IsScaled (value (round mode n x)) s (wholeOf mode s A (2 ^ d) * 2 ^ d) i o
+  pub round-scaled : IsScaled (value (round mode n x)) s (wholeOf mode s A (2 ^ d) * 2 ^ d) i o
   round-scaled =
       signed-scaled (value-fraction (round mode n x)) (units .sign ∙ ap (λ (t : Bool). signed t a) own-sign)
       (units-cross a (wholeOf mode s A (2 ^ d)) b (2 ^ (n - 1)) (2 ^ d) (2 ^ i) (2 ^ o) (up (exponent x)) (down (exponent x)) (mul-pos (pow-pos (n - 1)) (down-pos (exponent x)))

@@ -1,27 +1,33 @@
 -- Rounding a magnitude F of 128 bits with its top bit set: its upper n bits are the whole number, and a word and a flag stand for the fraction.
-use mathlib.Core.Path.{_≡_, sym, ap, _∙_}
-use mathlib.Core.Bool.{Bool, false, cond}
+use mathlib.Core.Path.{_≡_, refl, sym, ap, _∙_}
+use mathlib.Core.Bool.{Bool, true, false, cond}
 use Prim.Native.Nat.{ℕ, zero, suc, _+_, _-_, _*_, _/_, _%_, _^_, _≤_, _<_}
 use native.Mathlib.Omega.{arith}
-use native.Mathlib.Nat.{add-comm, add-zero, le-antisymm, le-of-eq, le-trans, lt-irrefl, lt-of-le-of-lt, lt-of-lt-of-le, mod-eq-of-lt, mul-assoc, mul-comm, mul-one, mul-le-mul, mul-lt-mul-of-pos-right, le-of-mul-le-mul-right, lt-of-mul-lt-mul-right, div-lt-iff-lt-mul}
+use native.Mathlib.Nat.{add-comm, add-zero, div-add-mod', mod-lt, le-antisymm, le-of-eq, le-trans, lt-irrefl, lt-of-le-of-lt, lt-of-lt-of-le, mod-eq-of-lt, mul-assoc, mul-comm, mul-one, mul-le-mul, mul-lt-mul-of-pos-right, le-of-mul-le-mul-right, lt-of-mul-lt-mul-right, div-lt-iff-lt-mul}
 use lib.Arith.{digits-div, digits-mod}
-use lib.Dec.{ltb, eqb}
+use lib.Dec.{T, ltb, eqb}
 use lib.Ieee.{minus}
 use lib.IntN.{ℤ, natAbs, sucℤ}
 use lib.Pow.{pow-add, pow-pos}
-use borrow.Author.Tests.{eq-eqb, ne-eqb}
+use borrow.Author.Tests.{ltb-true, ltb-false, lt-ltb, eq-eqb, ne-eqb}
 use Rattle.numbers.specs.Number.{isWorkingExponent}
-use Rattle.numbers.specs.Fraction.{IsFraction, isNegative, scaled}
+use Rattle.numbers.specs.Accuracy.{accuracyOf}
+use Rattle.numbers.specs.Fraction.{IsFraction, isNegative, scaled, IsScaled, value}
 use Rattle.numbers.specs.Rounding.{goesUp, wholeOf, placed, round}
 use Rattle.numbers.specs.Answer.{claimed, judged}
 use Rattle.numbers.specs.Grid.{InCell, bitOf}
 use Rattle.numbers.specs.Cell.{wide}
+use Rattle.numbers.specs.Magnitude.{between, accuracyBy}
 use Rattle.numbers.specs.declared.number.Number.the-variants.{Finite}
 use Rattle.numbers.specs.declared.task.Mode.{Mode}
 use Rattle.numbers.specs.declared.task.Mode.the-variants.{Trunc}
+use Rattle.numbers.proofs.Laws.Accuracy.{accuracy-scaled, between-same, between-less, between-more}
 use Rattle.numbers.proofs.Laws.Cell.{cell-ratio, round-cell, claim-cell}
+use Rattle.numbers.proofs.Laws.Misses.{fraction-left}
 use Rattle.numbers.proofs.Laws.Powers.{word-power, power-sum}
+use Rattle.numbers.proofs.Laws.Scaled.{scaled-own, finer}
 use Rattle.numbers.proofs.Laws.Signs.{abs-signed, negative-signed}
+use Rattle.numbers.proofs.Laws.Tasks.{round-scaled}
 use Rattle.numbers.proofs.Laws.Tests.{zero-same}
 use Rattle.numbers.proofs.Laws.Value.{whole-alone, fraction-alone}
 use Rattle.numbers.proofs.Laws.Whole.{whole-cell, fraction-cell, flagged, cell-of}
@@ -29,6 +35,17 @@ use Rattle.numbers.proofs.Laws.Whole.{whole-cell, fraction-cell, flagge
 -- 2^(128 - n) is a word above 2^(64 - n)
 pub word-above : (n : ℕ) → n ≤ 64 → 2 ^ (64 - n) * 2 ^ 64 ≡ 2 ^ (128 - n)
 word-above n h = sym (power-sum (128 - n) (64 - n) 64 (omega arith))
+
+-- q units and a rest r, made q or q + 1 units: where that lies against F
+unit-accuracy : (negative up inexact : Bool) (F U q r : ℕ) → q * U + r ≡ F → r < U → inexact ≡ ltb 0 r → (up ≡ true → 0 < r)
+    → accuracyBy negative up inexact ≡ between negative ((q + cond up 1 0) * U) F
+unfolding accuracyBy
+unit-accuracy negative true false F U q r parts small some fraction = absurd (let l = ltb-false 0 r (sym some) in omega (arith, fraction refl))
+unit-accuracy negative false false F U q r parts small some fraction = sym (between-same negative ((q + 0) * U) F (let l = ltb-false 0 r (sym some) in omega arith))
+unit-accuracy false true true F U q r parts small some fraction = sym (between-more false ((q + 1) * U) F (omega arith))
+unit-accuracy true true true F U q r parts small some fraction = sym (between-more true ((q + 1) * U) F (omega arith))
+unit-accuracy false false true F U q r parts small some fraction = sym (between-less false ((q + 0) * U) F (omega (arith, ltb-true 0 r (sym some))))
+unit-accuracy true false true F U q r parts small some fraction = sym (between-less true ((q + 0) * U) F (omega (arith, ltb-true 0 r (sym some))))
 
 module _ (F n high low : ℕ) (rest : Bool) (n1 : n ≤ 64) (word : low < 2 ^ 64)
     (shifted : wide high low ≡ F / 2 ^ (64 - n)) (dropped : rest ≡ ltb 0 (F % 2 ^ (64 - n))) where
@@ -56,6 +73,25 @@ module _ (F n high low : ℕ) (rest : Bool) (n1 : n ≤ 64) (word : low < 2 ^ 64
   top-bits =
       fraction-cell rest F (2 ^ (128 - n)) (wide high low) (2 ^ 63) (pow-pos (128 - n)) (pow-pos 63) cell
       ∙ rw (flagged rest (wide high low) (2 ^ 64) (pow-pos 64) .1, lower)
+
+  -- the upper bits are the quotient
+  high-is : F / 2 ^ (128 - n) ≡ high
+  unfolding wholeOf goesUp
+  high-is = sym (add-zero (F / 2 ^ (128 - n))) ∙ top-whole Trunc false ∙ add-zero high
+
+  -- where the result lies, by the tests that made it
+  pub top-accuracy : (mode : Mode) (negative up inexact : Bool) → up ≡ goesUp mode negative high (2 * low + bitOf rest) (2 ^ 65) → inexact ≡ ltb 0 (2 * low + bitOf rest)
+      → accuracyBy negative up inexact ≡ between negative (wholeOf mode negative F (2 ^ (128 - n)) * 2 ^ (128 - n)) F
+  top-accuracy mode negative up inexact decided some =
+      rw (top-whole mode negative, ← decided)
+      (unit-accuracy negative up inexact F (2 ^ (128 - n)) high (F % 2 ^ (128 - n))
+      (ap (λ (q : ℕ). q * 2 ^ (128 - n) + F % 2 ^ (128 - n)) (sym high-is) ∙ div-add-mod' F (2 ^ (128 - n)))
+      (mod-lt F (pow-pos (128 - n))) (some ∙ sym top-bits) fraction)
+    where
+      fraction : up ≡ true → 0 < F % 2 ^ (128 - n)
+      fraction h =
+          let goes : T (goesUp mode negative high (2 * low + bitOf rest) (2 ^ 65)) = rw (sym decided ∙ h) tt in
+          ltb-true 0 (F % 2 ^ (128 - n)) (top-bits ∙ lt-ltb 0 (2 * low + bitOf rest) (fraction-left mode negative high (2 * low + bitOf rest) (2 ^ 65) (pow-pos 65) goes))
 
   pub high-small : F < 2 ^ 128 → high < 2 ^ n
   unfolding wide
@@ -145,3 +181,14 @@ module _ (negative : Bool) (F x z o n : ℕ) (n0 : 1 ≤ n) (n1 : n ≤ 64) (low
   claim-top =
       claim-cell (scaled negative F x o) false x (o + z) (F * 2 ^ z) 127 n is-fraction n0 below-bit low high exact-cell
       ∙ rw (add-comm 127 x, zero-same ((2 * (F * 2 ^ z) + 0) % (2 * (2 * 2 ^ (127 - n)))) (F * 2 ^ z % 2 ^ (128 - n)) (fraction-alone (2 * (F * 2 ^ z) + 0) (2 * (2 * 2 ^ (127 - n))) (F * 2 ^ z) (2 ^ (128 - n)) denominator0 (pow-pos (128 - n)) quotient))
+
+  -- where the rounding lies against the value
+  pub top-lies : (mode : Mode) → accuracyOf (value (round mode n (scaled negative F x o))) (scaled negative F x o)
+      ≡ between negative (wholeOf mode negative (F * 2 ^ z) (2 ^ (128 - n)) * 2 ^ (128 - n)) (F * 2 ^ z)
+  top-lies mode = accuracy-scaled (round-scaled mode n shifted (128 - n) n0 n1 (rw (top n n0 n1) low) (rw (top n n0 n1) high)) shifted
+    where
+      shifted : IsScaled (scaled negative F x o) negative (F * 2 ^ z) x (o + z)
+      shifted = finer (scaled-own negative F x o) z (omega arith)
+
+      top : (n : ℕ) → 1 ≤ n → n ≤ 64 → n - 1 + (128 - n) ≡ 127
+      top n n0 n1 = omega arith

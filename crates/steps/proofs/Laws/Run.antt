@@ -7,8 +7,10 @@ use native.Mathlib.Nat.{not-suc-le-zero}
 use native.Mathlib.Omega.{arith}
 use lib.ListN.{take, drop, getD}
 use lib.Seq.{getD-take, getD-drop}
-use Rattle.numbers.specs.Answer.{Outcome, refused, outcome}
+use Rattle.numbers.specs.Accuracy.{markedAnswer, unmarked, outcome}
+use Rattle.numbers.specs.Answer.{Outcome, refused}
 use Rattle.numbers.specs.Number.{isAdmissible}
+use Rattle.numbers.specs.declared.answer.Accuracy.the-variants as accuracy
 use Rattle.numbers.specs.declared.answer.Answer.the-variants.{Given}
 use Rattle.numbers.specs.declared.number.Number.{Number}
 use Rattle.numbers.specs.declared.task.Task.{Task}
@@ -20,8 +22,8 @@ use Rattle.steps.specs.Wanted.{isStep}
 use Rattle.steps.proofs.TableLines.{early-lines, later-lines}
 
 -- an admissible operand is a result
-pub operand-result : (x : Number) → isAdmissible x ≡ true → IsResult (outcome (Given x))
-unfolding IsResult outcome
+pub operand-result : (x : Number) → isAdmissible x ≡ true → IsResult (outcome (Given x accuracy.Exact))
+unfolding IsResult markedAnswer unmarked
 operand-result x h = admissible-working x h
 
 -- one of the values in equal lists

@@ -4,7 +4,7 @@ use mathlib.Core.Bool.{false}
 use Prim.Native.Nat.{ℕ, _+_, _≤_}
 use native.Mathlib.Omega.{arith}
 use borrow.Author.Needs.{needs}
-use Rattle.numbers.specs.Answer.{rounded}
+use Rattle.numbers.specs.Accuracy.{markedBy}
 use Rattle.numbers.specs.Cell.{wide, endOf}
 use Rattle.numbers.specs.Rounding.{precisionOf}
 use Rattle.numbers.specs.Fraction.{scaled}
@@ -24,7 +24,7 @@ unfolding exactValue operandValue
 answers a is = record {
   biased = omega (arith, is .biased);
   rounds = λ (task : Task) (n0 : 1 ≤ precisionOf task) (n1 : precisionOf task ≤ 64).
-      ap (λ (F : ℕ). rounded task (scaled (a .negative) F (a .exponent + 65598) lastBit)) (low-alone (a .significand));
+      ap (λ (F : ℕ). markedBy task (scaled (a .negative) F (a .exponent + 65598) lastBit)) (low-alone (a .significand));
 }
 
 pub exact-operand-spec : {M : Type 1} → statement M

@@ -1,6 +1,6 @@
 -- `arithmetic::operation::operate` meets its contract: the rows in their order, and then the exact value, rounded.
 use borrow.Author.Needs.{needs}
-use Rattle.numbers.specs.Answer.{outcome}
+use Rattle.numbers.specs.Accuracy.{markedAnswer}
 use Rattle.arithmetic.specs.Operations.{exactOf}
 use Rattle.arithmetic.specs.Private.{IsJudged}
 use Rattle.arithmetic.specs.declared.judgement.Judgement.the-variants.{Fit, BadPrecision, FirstUnfit, SecondUnfit}
@@ -20,19 +20,19 @@ rounded-requires c κs =
     (c .exact-of .ensures .biased, n .0, n .1)
 
 returns : tie.Need-returns
-unfolding outcome IsJudged
-returns c = task-row _ _ _ _ _ (c .before .before .before .precision-of .ensures) 2 (judged-as _ _ _ _ BadPrecision (c .before .before .judged .ensures) (c .enum-told .given .1))
+unfolding markedAnswer IsJudged
+returns c = task-row (exactOf (c .before .before .before .before .args .operation)) _ _ _ _ (c .before .before .before .precision-of .ensures) 2 (judged-as _ _ _ _ BadPrecision (c .before .before .judged .ensures) (c .enum-told .given .1))
 
 returns-2 : tie.Need-returns-2
-unfolding outcome IsJudged
-returns-2 c = task-row _ _ _ _ _ (c .before .before .before .precision-of .ensures) 3 (judged-as _ _ _ _ FirstUnfit (c .before .before .judged .ensures) (c .enum-told2 .given .1))
+unfolding markedAnswer IsJudged
+returns-2 c = task-row (exactOf (c .before .before .before .before .args .operation)) _ _ _ _ (c .before .before .before .precision-of .ensures) 3 (judged-as _ _ _ _ FirstUnfit (c .before .before .judged .ensures) (c .enum-told2 .given .1))
 
 returns-3 : tie.Need-returns-3
-unfolding outcome IsJudged
-returns-3 c = task-row _ _ _ _ _ (c .before .before .before .precision-of .ensures) 4 (judged-as _ _ _ _ SecondUnfit (c .before .before .judged .ensures) (c .enum-told3 .given .1))
+unfolding markedAnswer IsJudged
+returns-3 c = task-row (exactOf (c .before .before .before .before .args .operation)) _ _ _ _ (c .before .before .before .precision-of .ensures) 4 (judged-as _ _ _ _ SecondUnfit (c .before .before .judged .ensures) (c .enum-told3 .given .1))
 
 returns-4 : tie.Need-returns-4
-returns-4 c = let known = c .before .before in task-answer _ _ _ _ _ (known .before .before .before .precision-of .ensures) (fit known) _ (c .before .exact-of .ensures) _ (c .rounded .ensures)
+returns-4 c = let known = c .before .before in task-answer (exactOf (known .before .before .before .before .args .operation)) _ _ _ _ (known .before .before .before .precision-of .ensures) (fit known) _ (c .before .exact-of .ensures) _ (c .rounded .ensures)
 
 pub operate-spec : {M : Type 1} → statement M
 operate-spec =

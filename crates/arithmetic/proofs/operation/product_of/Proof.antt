@@ -11,7 +11,7 @@ use Rattle.numbers.specs.Fraction.{product, scaled}
 use Rattle.numbers.specs.Cell.{wide, endOf}
 use Rattle.numbers.specs.declared.task.Task.{Task}
 use Rattle.numbers.proofs.Laws.Fractions.{product-fraction}
-use Rattle.numbers.proofs.Laws.Value.{same-outcome}
+use Rattle.numbers.proofs.Laws.Marked.{same-mark}
 use Rattle.arithmetic.specs.Private.{lastBit, operandValue, IsOperand, exactValue, IsExact}
 use Rattle.arithmetic.specs.declared.operand.Operand.{Operand}
 use Rattle.arithmetic.proofs.Laws.Operands.{operand-fraction, product-value}
@@ -27,7 +27,7 @@ answers a b high low a-is b-is w =
       biased = omega (arith, a-is .biased, b-is .biased);
       rounds = λ (task : Task) (n0 : 1 ≤ precisionOf task) (n1 : precisionOf task ≤ 64).
           rw w
-          (sym (same-outcome task (product (operandValue a) (operandValue b)) (scaled s (a .significand * b .significand) (a .exponent + b .exponent) lastBit)
+          (sym (same-mark task (product (operandValue a) (operandValue b)) (scaled s (a .significand * b .significand) (a .exponent + b .exponent) lastBit)
           (product-fraction (operandValue a) (operandValue b) (operand-fraction a) (operand-fraction b)) (pow-pos lastBit) n0 (product-value a b)));
     }
 

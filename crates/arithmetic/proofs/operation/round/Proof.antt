@@ -4,7 +4,7 @@ use mathlib.Core.Bool.{true}
 use Prim.Native.Nat.{_≤_}
 use borrow.Author.Needs.{needs}
 use borrow.Author.Tests.{not-true, not-false}
-use Rattle.numbers.specs.Answer.{Outcome, outcome, rounded}
+use Rattle.numbers.specs.Accuracy.{Marked, marked, markedAnswer, markedBy}
 use Rattle.numbers.specs.Fraction.{Equal, value}
 use Rattle.numbers.specs.Number.{isWorking}
 use Rattle.numbers.specs.Rounding.{isPrecision, precisionOf}
@@ -21,8 +21,8 @@ use Rattle.arithmetic.proofs.Laws.Operands.{operand-fraction}
 use Rattle.arithmetic.proofs.operation.round.Statement.{statement}
 use Rattle.arithmetic.proofs.operation.round.Tie as tie
 
-same : (task : Task) (x : Number) (a : Operand) (r : Exact) (out : Outcome) → (1 ≤ precisionOf task) × (precisionOf task ≤ 64) → Equal (value x) (operandValue a) → IsExact r (operandValue a)
-    → out ≡ rounded task (exactValue r) → out ≡ rounded task (value x)
+same : (task : Task) (x : Number) (a : Operand) (r : Exact) (out : Marked) → (1 ≤ precisionOf task) × (precisionOf task ≤ 64) → Equal (value x) (operandValue a) → IsExact r (operandValue a)
+    → out ≡ markedBy task (exactValue r) → out ≡ markedBy task (value x)
 same task x a r out n is exact o = o ∙ exact-equal r (operandValue a) (value x) (operand-fraction a) (value-fraction x) is exact .rounds task (n .0) (n .1)
 
 -- what is judged is the task's precision
@@ -44,19 +44,19 @@ unfolding roundingOf
 returns-2 c =
     let f = c .before .before .before in
     let exact = precise (f .before .before) in
-    same _ _ _ _ _ (precision-range _ exact) (c .before .before .operand-of .ensures .0) (c .before .exact-operand .ensures) (c .rounded .ensures) ∙ first-fit _ _ _ _ exact (fit f)
+    same _ _ _ _ _ (precision-range _ exact) (c .before .before .operand-of .ensures .0) (c .before .exact-operand .ensures) (c .rounded .ensures) ∙ ap (marked _) (first-fit _ _ _ _ exact (fit f))
 
 pub round-spec : {M : Type 1} → statement M
-unfolding outcome roundingOf
+unfolding marked markedAnswer roundingOf
 round-spec =
     tie.close
     (tie.spec
     (λ c κs. search needs)
     (λ c κs. search needs)
-    (λ c. bad-precision _ _ _ _ (sym (judged (c .before)) ∙ not-true _ (c .if1 .taken)))
+    (λ c. ap (marked _) (bad-precision _ _ _ _ (sym (judged (c .before)) ∙ not-true _ (c .if1 .taken))))
     (λ c κs. search needs)
     (λ c κs. fit c)
     (λ c κs. search needs)
     rounded-requires
     returns-2
-    (λ c. first-unfit _ _ _ _ (precise (c .before .before)) (sym (c .before .is-working .ensures) ∙ c .if2 .left)))
+    (λ c. ap (marked _) (first-unfit _ _ _ _ (precise (c .before .before)) (sym (c .before .is-working .ensures) ∙ c .if2 .left))))

@@ -1,19 +1,18 @@
 -- `arithmetic::operation::subtract` meets its contract: the rows in their order, and then the exact difference, rounded.
 use native.Mathlib.Omega.{arith}
 use borrow.Author.Needs.{needs}
-use Rattle.numbers.specs.Answer.{outcome}
+use Rattle.numbers.specs.Accuracy.{markedAnswer}
 use Rattle.numbers.specs.Fraction.{difference}
-use Rattle.numbers.proofs.Laws.Refusals.{unknown-mode}
-use Rattle.arithmetic.specs.Operations.{differenceOf, codedOf}
+use Rattle.arithmetic.specs.Operations.{differenceOf}
 use Rattle.arithmetic.specs.Private.{IsJudged}
 use Rattle.arithmetic.specs.declared.judgement.Judgement.the-variants.{Fit, BadPrecision, FirstUnfit, SecondUnfit}
-use Rattle.arithmetic.proofs.Laws.Entries.{judged-as, AreFit, fit-coded, coded-row, coded-answer}
+use Rattle.arithmetic.proofs.Laws.Entries.{judged-as, AreFit, fit-coded, coded-unknown, coded-row, coded-answer}
 use Rattle.arithmetic.proofs.operation.subtract.Statement.{statement}
 use Rattle.arithmetic.proofs.operation.subtract.Tie as tie
 
 returns : tie.Need-returns
-unfolding outcome differenceOf codedOf
-returns c = unknown-mode 6 _ _ (omega (arith, c .if1 .taken))
+unfolding markedAnswer differenceOf
+returns c = coded-unknown difference _ _ _ _ (omega (arith, c .if1 .taken))
 
 fit : (c : tie.After-enum-told4) → let args = c .before .before .before .before .args in AreFit (args .a) (args .b) (args .precision)
 unfolding IsJudged
@@ -23,15 +22,15 @@ rounded-requires : tie.Need-rounded-requires
 rounded-requires c κs = let n = fit-coded difference _ _ _ _ _ (c .task-of .ensures) (fit (c .before .before)) in (c .before .exact-difference .ensures .biased, n .0, n .1)
 
 returns-2 : tie.Need-returns-2
-unfolding outcome differenceOf IsJudged
+unfolding markedAnswer differenceOf IsJudged
 returns-2 c = coded-row difference _ _ _ _ (c .before .before .before .if1 .left) 2 (judged-as _ _ _ _ BadPrecision (c .before .before .judged .ensures) (c .enum-told .given .1))
 
 returns-3 : tie.Need-returns-3
-unfolding outcome differenceOf IsJudged
+unfolding markedAnswer differenceOf IsJudged
 returns-3 c = coded-row difference _ _ _ _ (c .before .before .before .if1 .left) 3 (judged-as _ _ _ _ FirstUnfit (c .before .before .judged .ensures) (c .enum-told2 .given .1))
 
 returns-4 : tie.Need-returns-4
-unfolding outcome differenceOf IsJudged
+unfolding markedAnswer differenceOf IsJudged
 returns-4 c = coded-row difference _ _ _ _ (c .before .before .before .if1 .left) 4 (judged-as _ _ _ _ SecondUnfit (c .before .before .judged .ensures) (c .enum-told3 .given .1))
 
 returns-5 : tie.Need-returns-5

@@ -9,7 +9,7 @@ use lib.IntN.{ℤ, pos, _-ℤ_}
 use mir.Facts.{toZ-ofZ, toZ-pos}
 use mir.Syntax.{w32}
 use mir.Val.{SFits, toZ, ofZ}
-use Rattle.numbers.specs.Answer.{rounded}
+use Rattle.numbers.specs.Accuracy.{markedBy}
 use Rattle.numbers.specs.Cell.{endOf, cellRounding}
 use Rattle.numbers.specs.Rounding.{precisionOf}
 use Rattle.numbers.specs.Fraction.{scaled}
@@ -34,7 +34,7 @@ module _ (x : ℕ) (h : x ≤ highestExact) where
   exponent-is = toZ-ofZ difference-fits ∙ difference-is
 
 answers : (task : Task) (negative : Bool) (F x : ℕ) (rest : Bool) (e : ℤ) → 1 ≤ precisionOf task → precisionOf task ≤ 64 → e ≡ minus x lastBit
-    → cellRounding negative F rest e task ≡ rounded task (scaled negative (endOf F rest) x lastBit)
+    → cellRounding negative F rest e task ≡ markedBy task (scaled negative (endOf F rest) x lastBit)
 unfolding cellRounding
 answers task negative F x rest e n0 n1 is = rw (range-precision (precisionOf task) n0 n1, is) (sym (scaled-binary task negative (endOf F rest) x lastBit n0))
 

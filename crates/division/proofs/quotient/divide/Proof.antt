@@ -2,13 +2,15 @@
 use mathlib.Core.Path.{_≡_, sym, ap, _∙_}
 use Prim.Native.Nat.{ℕ}
 use borrow.Author.Needs.{needs}
-use Rattle.numbers.specs.Answer.{Outcome, rounded}
-use Rattle.numbers.specs.Fraction.{value, quotient}
+use Rattle.numbers.specs.Accuracy.{Marked, marked, markedBy, unmarked}
+use Rattle.numbers.specs.Answer.{rounded}
+use Rattle.numbers.specs.Fraction.{Fraction, value, quotient}
 use Rattle.numbers.specs.Rounding.{taskOf}
 use Rattle.numbers.specs.declared.number.Number.{Number}
 use Rattle.numbers.specs.declared.task.Task.{Task}
+use Rattle.numbers.proofs.Laws.Marked.{unmark}
 use Rattle.numbers.proofs.Laws.Refusals.{range-precision, mode-of}
-use Rattle.division.specs.Quotient.{quotientOutcome, quotientOf}
+use Rattle.division.specs.Quotient.{markedQuotient, quotientOf}
 use Rattle.division.specs.Judgement.{IsTaken, answeredBy, IsTask}
 use Rattle.division.specs.Words.{IsGiven}
 use Rattle.division.specs.declared.judgement.Judgement.the-variants.{Divisible, UnknownMode, BadPrecision, FirstUnfit, SecondUnfit, ZeroDivisor}
@@ -21,15 +23,19 @@ module _ {p d : Number} {code n : ℕ} (is : IsTaken p d code n) {task : Task} (
   fit : IsTask task
   fit = task-range task code n named (range-precision n (is .precise .0) (is .precise .1))
 
-  -- what is rounded is the quotient's answer, and so a number
-  module _ {x : Outcome} (e : x ≡ rounded task (quotient (value p) (value d))) where
-    answer-is : x ≡ quotientOf p d code n
-    answer-is = e ∙ ap (λ (t : Task). rounded t (quotient (value p) (value d))) named ∙ sym (quotient-taken is)
+  -- the true value
+  abbrev v : Fraction
+  v = quotient (value p) (value d)
 
-    is-given : IsGiven x
+  -- what is rounded is the quotient's answer, and so a number
+  module _ {x : Marked} (e : x ≡ markedBy task v) where
+    answer-is : x ≡ marked v (quotientOf p d code n)
+    answer-is = e ∙ ap (λ (t : Task). markedBy t v) named ∙ ap (marked v) (sym (quotient-taken is))
+
+    is-given : IsGiven (unmarked x)
     is-given =
         let m = mode-of code n (is .mode) in
-        rw (e ∙ ap (λ (t : Task). rounded t (quotient (value p) (value d))) (named ∙ m .1)) (quotient-given p d (is .dividend) (is .divisor) (is .nonzero) (m .0) n (is .precise .0) (is .precise .1))
+        rw (ap unmarked e ∙ unmark v (rounded task v) ∙ ap (λ (t : Task). rounded t v) (named ∙ m .1)) (quotient-given p d (is .dividend) (is .divisor) (is .nonzero) (m .0) n (is .precise .0) (is .precise .1))
 
 divisible : (c : tie.After-enum-told6) → let args = c .before .before .before .args in IsTaken (args .p) (args .d) (args .code) (args .precision)
 unfolding answeredBy
@@ -44,7 +50,7 @@ returns-6 : tie.Need-returns-6
 returns-6 c = c .answered .ensures ∙ answer-is (divisible (c .before .before .before)) (c .before .before .task-of .ensures) (c .before .divided .ensures)
 
 pub divide-spec : {M : Type 1} → statement M
-unfolding quotientOutcome quotientOf answeredBy
+unfolding marked markedQuotient quotientOf answeredBy
 divide-spec =
     tie.close
     (tie.spec
@@ -58,9 +64,9 @@ divide-spec =
     (λ c κs. search needs)
     divided-requires
     (λ c κs. is-given (divisible (c .before .before)) (c .before .task-of .ensures) (c .divided .ensures))
-    (λ c. judged-as _ _ _ _ _ UnknownMode (c .before .before .judged .ensures) (c .enum-told .given .1) _)
-    (λ c. judged-as _ _ _ _ _ BadPrecision (c .before .before .judged .ensures) (c .enum-told2 .given .1) _)
-    (λ c. judged-as _ _ _ _ _ FirstUnfit (c .before .before .judged .ensures) (c .enum-told3 .given .1) _)
-    (λ c. judged-as _ _ _ _ _ SecondUnfit (c .before .before .judged .ensures) (c .enum-told4 .given .1) _)
-    (λ c. judged-as _ _ _ _ _ ZeroDivisor (c .before .before .judged .ensures) (c .enum-told5 .given .1) _)
+    (λ c. ap (marked _) (judged-as _ _ _ _ _ UnknownMode (c .before .before .judged .ensures) (c .enum-told .given .1) _))
+    (λ c. ap (marked _) (judged-as _ _ _ _ _ BadPrecision (c .before .before .judged .ensures) (c .enum-told2 .given .1) _))
+    (λ c. ap (marked _) (judged-as _ _ _ _ _ FirstUnfit (c .before .before .judged .ensures) (c .enum-told3 .given .1) _))
+    (λ c. ap (marked _) (judged-as _ _ _ _ _ SecondUnfit (c .before .before .judged .ensures) (c .enum-told4 .given .1) _))
+    (λ c. ap (marked _) (judged-as _ _ _ _ _ ZeroDivisor (c .before .before .judged .ensures) (c .enum-told5 .given .1) _))
     returns-6)

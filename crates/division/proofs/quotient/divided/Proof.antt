@@ -4,23 +4,24 @@ use mathlib.Core.Bool.{false, false≢true}
 use borrow.Author.Needs.{needs}
 use mir.Syntax.{w32}
 use mir.Val.{SFits}
-use Rattle.numbers.specs.Answer.{outcome, rounded}
+use Rattle.numbers.specs.Accuracy.{markedAnswer, markedBy}
 use Rattle.numbers.specs.Fraction.{value, quotient}
+use Rattle.numbers.specs.declared.answer.Accuracy.the-variants as accuracy
 use Rattle.numbers.specs.declared.answer.Answer.the-variants.{Given}
 use Rattle.numbers.specs.declared.number.Number.{Number}
 use Rattle.numbers.specs.declared.number.Number.the-variants.{Zero}
 use Rattle.numbers.specs.declared.task.Task.{Task}
 use Rattle.numbers.proofs.Laws.Fractions.{quotient-zero}
-use Rattle.numbers.proofs.Laws.Value.{rounded-zero}
+use Rattle.numbers.proofs.Laws.Marked.{zero-mark}
 use Rattle.numbers.proofs.Laws.Scaled.{zero-value}
 use Rattle.division.specs.Quotient.{isZero}
 use Rattle.division.proofs.Laws.Rounds.{both-significands, difference-fits, less-fits, exponent-is, quotient-rounds}
 use Rattle.division.proofs.quotient.divided.Statement.{statement}
 use Rattle.division.proofs.quotient.divided.Tie as tie
 
-zero-dividend : (task : Task) (p d : Number) → p ≡ Zero → outcome (Given Zero) ≡ rounded task (quotient (value p) (value d))
-unfolding outcome
-zero-dividend task p d is = rw is (sym (rounded-zero task (quotient (value Zero) (value d)) (quotient-zero (value Zero) (value d) zero-value)))
+zero-dividend : (task : Task) (p d : Number) → p ≡ Zero → markedAnswer (Given Zero accuracy.Exact) ≡ markedBy task (quotient (value p) (value d))
+unfolding markedAnswer
+zero-dividend task p d is = rw is (sym (zero-mark task (quotient (value Zero) (value d)) (quotient-zero (value Zero) (value d) zero-value)))
 
 -- a divisor is not zero
 not-zero : (d : Number) → d ≡ Zero → isZero d ≡ false → ⊥

@@ -8,7 +8,7 @@ use lib.Ieee.{minus}
 use lib.IntN.{ℤ}
 use mir.Facts.{toZ-ofZ}
 use Rattle.numbers.specs.Biased.{raise}
-use Rattle.numbers.specs.Answer.{Outcome, outcome, rounded}
+use Rattle.numbers.specs.Accuracy.{Marked, markedAnswer, markedBy}
 use Rattle.numbers.specs.Cell.{endOf, cellRounding, RoundsEvery}
 use Rattle.numbers.specs.Rounding.{precisionOf, isPrecision}
 use Rattle.numbers.specs.Fraction.{scaled}
@@ -20,17 +20,17 @@ use Rattle.numbers.proofs.rounding.round_cell.Statement.{statement}
 use Rattle.numbers.proofs.rounding.round_cell.Tie as tie
 
 module _ (negative : Bool) (F : ℕ) (rest : Bool) (e : ℤ) (task : Task) where
-  refused : isPrecision (precisionOf task) ≡ false → outcome BadPrecision ≡ cellRounding negative F rest e task
-  unfolding outcome cellRounding
+  refused : isPrecision (precisionOf task) ≡ false → markedAnswer BadPrecision ≡ cellRounding negative F rest e task
+  unfolding markedAnswer cellRounding
   refused h = rw h
 
   given : isPrecision (precisionOf task) ≡ true → (x M : ℕ) → e ≡ minus x raise → M ≡ endOf F rest
-      → rounded task (scaled negative M x raise) ≡ cellRounding negative F rest e task
+      → markedBy task (scaled negative M x raise) ≡ cellRounding negative F rest e task
   unfolding cellRounding
   given h x M is end = rw (h, is, end) (scaled-binary task negative (endOf F rest) x raise (precision-range (precisionOf task) h .0))
 
 -- and so it is of every value
-every : (negative : Bool) (F : ℕ) (rest : Bool) (e : ℤ) (task : Task) (out : Outcome) → out ≡ cellRounding negative F rest e task
+every : (negative : Bool) (F : ℕ) (rest : Bool) (e : ℤ) (task : Task) (out : Marked) → out ≡ cellRounding negative F rest e task
     → (out ≡ cellRounding negative F rest e task) × RoundsEvery out negative F rest e task
 every negative F rest e task out is = (is, rw is (every-value negative F rest e task))
 

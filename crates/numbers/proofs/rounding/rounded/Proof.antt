@@ -8,11 +8,13 @@ use native.Mathlib.Omega.{arith}
 use borrow.Author.Needs.{needs}
 use lib.Ieee.{minus}
 use Rattle.numbers.specs.Biased.{raise}
-use Rattle.numbers.specs.Rounding.{precisionOf}
-use Rattle.numbers.specs.Answer.{outcome, checked, rounded}
+use Rattle.numbers.specs.Rounding.{precisionOf, round}
+use Rattle.numbers.specs.Accuracy.{markedAnswer, markedBy}
+use Rattle.numbers.specs.Answer.{checked, rounded, claimed}
 use Rattle.numbers.specs.Cell.{wide}
-use Rattle.numbers.specs.Magnitude.{roundedTop, claimedTop}
+use Rattle.numbers.specs.Magnitude.{told, roundedTop, claimedTop}
 use Rattle.numbers.specs.Fraction.{scaled}
+use Rattle.numbers.specs.declared.answer.Accuracy.the-variants as accuracy
 use Rattle.numbers.specs.declared.answer.Answer.the-variants.{Given}
 use Rattle.numbers.specs.declared.number.Number.the-variants.{Zero}
 use Rattle.numbers.specs.declared.task.Claim.{Claim}
@@ -21,15 +23,18 @@ use Rattle.numbers.specs.declared.task.Rounding.{Rounding}
 use Rattle.numbers.specs.declared.task.Task.{Task}
 use Rattle.numbers.specs.declared.task.Task.the-variants.{Round, Exact}
 use Rattle.numbers.proofs.Laws.Signs.{abs-signed}
-use Rattle.numbers.proofs.Laws.Value.{rounded-zero}
-use Rattle.numbers.proofs.Laws.Top.{round-top, claim-top}
+use Rattle.numbers.proofs.Laws.Accuracy.{accuracy-exact}
+use Rattle.numbers.proofs.Laws.Fits.{given-round}
+use Rattle.numbers.proofs.Laws.Marked.{told-marked, claim-kept, zero-mark}
+use Rattle.numbers.proofs.Laws.Scaled.{scaled-fraction}
+use Rattle.numbers.proofs.Laws.Top.{round-top, claim-top, top-lies}
 use Rattle.numbers.proofs.rounding.rounded.Statement.{statement}
 use Rattle.numbers.proofs.rounding.rounded.Tie as tie
 
 -- no bit is set
-nothing : (task : Task) (negative : Bool) (high low x : ℕ) → high ≡ 0 → low ≡ 0 → outcome (Given Zero) ≡ rounded task (scaled negative (wide high low) x raise)
-unfolding outcome wide
-nothing task negative high low x h l = rw (h, l) (sym (rounded-zero task (scaled negative 0 x raise) (abs-signed negative (0 * 2 ^ x) ∙ zero-mul (2 ^ x))))
+nothing : (task : Task) (negative : Bool) (high low x : ℕ) → high ≡ 0 → low ≡ 0 → markedAnswer (Given Zero accuracy.Exact) ≡ markedBy task (scaled negative (wide high low) x raise)
+unfolding markedAnswer wide
+nothing task negative high low x h l = rw (h, l) (sym (zero-mark task (scaled negative 0 x raise) (abs-signed negative (0 * 2 ^ x) ∙ zero-mul (2 ^ x))))
 
 -- a bit is set
 low-set : (high low : ℕ) → (low ≡ 0 → ⊥) → 0 < wide high low
@@ -51,17 +56,23 @@ module _ (task : Task) (n0 : 1 ≤ precisionOf task) (n1 : precisionOf task ≤ 
 
   -- what is done at the top bit is done to the value
   module _ (negative : Bool) (F x z G : ℕ) (low : 2 ^ 127 ≤ F * 2 ^ z) (high : F * 2 ^ z < 2 ^ 128) (shifted : G ≡ F * 2 ^ z) where
-    round-value : (r : Rounding) → task ≡ Round r → roundedTop (r .mode) negative (minus (x + 127) (raise + z)) (r .precision) G ≡ rounded task (scaled negative F x raise)
+    round-value : (r : Rounding) → task ≡ Round r → roundedTop (r .mode) negative (minus (x + 127) (raise + z)) (r .precision) G ≡ markedBy task (scaled negative F x raise)
     unfolding roundedTop rounded
     round-value r e =
         let p = precision (Round r) e in
-        rw (e, shifted) (ap checked (sym (round-top negative F x z raise (r .precision) (p .0) (p .1) low high (r .mode))))
+        let v = scaled negative F x raise in
+        rw (e, shifted, ← round-top negative F x z raise (r .precision) (p .0) (p .1) low high (r .mode))
+        (told-marked _ v (checked (round (r .mode) (r .precision) v))
+        (λ y h. rw (given-round (r .mode) (r .precision) v y h) (sym (top-lies negative F x z raise (r .precision) (p .0) (p .1) low high (r .mode)))))
 
-    claim-value : (r : Claim) → task ≡ Exact r → claimedTop negative (minus (x + 127) (raise + z)) (r .precision) G ≡ rounded task (scaled negative F x raise)
+    claim-value : (r : Claim) → task ≡ Exact r → claimedTop negative (minus (x + 127) (raise + z)) (r .precision) G ≡ markedBy task (scaled negative F x raise)
     unfolding claimedTop rounded
     claim-value r e =
         let p = precision (Exact r) e in
-        rw (e, shifted) (sym (claim-top negative F x z raise (r .precision) (p .0) (p .1) low high ∙ rw (round-top negative F x z raise (r .precision) (p .0) (p .1) low high Trunc)))
+        let v = scaled negative F x raise in
+        rw (e, shifted)
+        (ap (told accuracy.Exact) (sym (claim-top negative F x z raise (r .precision) (p .0) (p .1) low high ∙ rw (round-top negative F x z raise (r .precision) (p .0) (p .1) low high Trunc)))
+        ∙ told-marked accuracy.Exact v (claimed (r .precision) v) (λ y h. sym (accuracy-exact _ v (claim-kept (r .precision) v y (scaled-fraction negative F x raise) (p .0) (p .1) h .1))))
 
 round-top-requires : tie.Need-round-top-requires
 round-top-requires c κs =

@@ -4,7 +4,8 @@ use Prim.Native.Nat.{ℕ}
 use native.Mathlib.Omega.{arith}
 use lib.Dec.{lit≤}
 use borrow.Author.Needs.{needs}
-use Rattle.numbers.specs.Answer.{Outcome, outcome}
+use Rattle.numbers.specs.Accuracy.{markedAnswer, unmarked, outcome}
+use Rattle.numbers.specs.Answer.{Outcome}
 use Rattle.numbers.specs.Fraction.{Fraction, product}
 use Rattle.numbers.specs.Rounding.{byMode, claim}
 use Rattle.numbers.specs.declared.number.Number.{Number}
@@ -39,7 +40,7 @@ first : (c : tie.After-seed2) → Is (started c .args .d) 1 (outcome (c .seed2 .
 first c p task = c .seed2 .ensures .0 ∙ sym (line-1 p _ task)
 
 second : (c : tie.After-rounded) → Is (c .before .before .args .d) 2 (outcome (c .rounded .result))
-unfolding outcome
+unfolding markedAnswer unmarked
 second c p task = c .rounded .ensures .0 ∙ sym (line-2 p _ task)
 
 third : (c : tie.After-combined) → Is (divisor c) 3 (outcome (c .combined .result))

@@ -4,7 +4,8 @@ use mathlib.Core.Bool.{false}
 use Prim.Native.Nat.{_≤_}
 use lib.Dec.{lit≤}
 use lib.IntN.{pos}
-use Rattle.numbers.specs.Answer.{Outcome, given, refused, outcome, rounded}
+use Rattle.numbers.specs.Accuracy.{markedAnswer, unmarked}
+use Rattle.numbers.specs.Answer.{Outcome, given, refused, rounded}
 use Rattle.numbers.specs.Fraction.{Equal, value, signed, difference, product}
 use Rattle.numbers.specs.Number.{isBetween, isSignificand, isWorkingExponent, isFit}
 use Rattle.numbers.specs.Rounding.{claim, precisionOf}
@@ -52,11 +53,11 @@ refined-line task (given x) (given t) c r n0 has e f =
     (product-equal (value x) y (value x) (complement (value t)) refl (has .2))
 
 combined-requires : tie.Need-combined-requires
-unfolding outcome IsResult isFit isSignificand isWorkingExponent isBetween
+unfolding markedAnswer unmarked IsResult isFit isSignificand isWorkingExponent isBetween
 combined-requires c κs = (refl, c .pre .1, (lit≤ tt, lit≤ tt))
 
 returns : tie.Need-returns
-unfolding outcome made
+unfolding markedAnswer unmarked made
 returns c =
     let start = c .before .before in
     (refined-line _ _ _ _ _ (lit≤ tt) (start .pre .2) (c .before .combined .ensures .0) (c .combined2 .ensures .0), c .combined2 .ensures .1)

@@ -11,9 +11,11 @@ use mir.Syntax.{w32}
 use mir.Val.{SFits, toZ, ofZ}
 use borrow.Author.Needs.{needs}
 use Rattle.numbers.specs.Biased.{bias}
-use Rattle.numbers.specs.Answer.{outcome, given, rounded}
+use Rattle.numbers.specs.Accuracy.{markedAnswer, unmarked, outcome}
+use Rattle.numbers.specs.Answer.{given, rounded}
 use Rattle.numbers.specs.Number.{isAdmissible}
 use Rattle.numbers.specs.Rounding.{claim}
+use Rattle.numbers.specs.declared.answer.Accuracy.the-variants as accuracy
 use Rattle.numbers.specs.declared.answer.Answer.the-variants.{Given}
 use Rattle.numbers.specs.declared.number.Number.{Number}
 use Rattle.numbers.specs.declared.number.Number.the-variants.{Zero, Finite}
@@ -71,8 +73,8 @@ module _ (d : Number) (s : Bool) (e : ℤ) (S : ℕ) (is : d ≡ Finite s e S) (
         ap₂ (λ (z : ℤ) (n : ℕ). Finite s z n) (toZ-ofZ exponent-fits ∙ exponent-is)
         (ap (λ (n : ℕ). n * 2 ^ 56 % 2 ^ 64) entry ∙ mod-eq-of-lt (omega (arith, byte .1)))
 
-    seeded : (outcome (Given made) ≡ rounded (claim 8) (seed d)) × IsResult (outcome (Given made))
-    unfolding outcome IsResult
+    seeded : (outcome (Given made accuracy.Exact) ≡ rounded (claim 8) (seed d)) × IsResult (outcome (Given made accuracy.Exact))
+    unfolding markedAnswer unmarked IsResult
     seeded =
         let step = seed-step s b S range in
         let x = Finite s (minus (131069 - b) bias) (entryFor S * 2 ^ 56) in
@@ -83,8 +85,8 @@ module _ (d : Number) (s : Bool) (e : ℤ) (S : ℕ) (is : d ≡ Finite s e S) (
         let divisor : Finite s (minus b bias) S ≡ d = ap (λ (z : ℤ). Finite s z S) (sym (parts .1)) ∙ sym is in
         (ap given (sym number) ∙ sym (step .step) ∙ ap (λ (y : Number). rounded (claim 8) (seed y)) divisor, rw (← number) (step .fit))
 
-sub-t7 : tie.Need-sub-t7
-sub-t7 c =
+sub-t8 : tie.Need-sub-t8
+sub-t8 c =
     let v = c .before .before .d .given in
     let fits : SFits w32 (v .0 .1 .0) = search needs in
     exponent-fits _ _ _ _ (v .1) (c .before .before .before .before .pre .0) fits
@@ -96,4 +98,4 @@ returns-2 c =
     seeded _ _ _ _ (v .1) (c .before .before .before .before .pre .0) fits (c .entry-for .result) (c .entry-for .ensures)
 
 pub seed-spec : {M : Type 1} → statement M
-seed-spec = tie.close (tie.spec (λ c. search needs) (λ c. search needs) (λ c. absurd (not-zero _ (c .enum-told .given .1) (c .before .before .pre .1))) (λ c κs. search needs) sub-t7 (λ c. search needs) returns-2)
+seed-spec = tie.close (tie.spec (λ c. search needs) (λ c. search needs) (λ c. absurd (not-zero _ (c .enum-told .given .1) (c .before .before .pre .1))) (λ c κs. search needs) sub-t8 (λ c. search needs) returns-2)

@@ -1,12 +1,12 @@
 -- `steps::wanted::answered` meets its contract: each answer has the step's of the same number.
 use borrow.Author.Needs.{needs}
-use Rattle.numbers.specs.Answer.{outcome}
+use Rattle.numbers.specs.Accuracy.{markedAnswer, unmarked}
 use Rattle.steps.specs.Wanted.{stepOutcome}
 use Rattle.steps.proofs.wanted.answered.Statement.{statement}
 use Rattle.steps.proofs.wanted.answered.Tie as tie
 
 pub answered-spec : {M : Type 1} → statement M
-unfolding stepOutcome outcome
+unfolding stepOutcome markedAnswer unmarked
 answered-spec =
     tie.close
     (tie.spec

@@ -4,7 +4,8 @@ use Prim.Native.Nat.{ℕ}
 use native.Mathlib.Omega.{arith}
 use lib.Dec.{lit≤}
 use borrow.Author.Needs.{needs}
-use Rattle.numbers.specs.Answer.{Outcome, outcome}
+use Rattle.numbers.specs.Accuracy.{markedAnswer, unmarked, outcome}
+use Rattle.numbers.specs.Answer.{Outcome}
 use Rattle.steps.specs.Run.{stepsOf, digitStep}
 use Rattle.steps.specs.Steps.{afterStep}
 use Rattle.steps.proofs.Laws.Run.{operand-result, item, first-value, later-value}
@@ -17,7 +18,7 @@ abbrev at : tie.After-rounded → ℕ → Outcome
 at c k = let args = c .before .args in afterStep (args .p) (args .d) (args .task) k
 
 first-remainder : (c : tie.After-rounded) → outcome (c .rounded .result) ≡ at c 9
-unfolding outcome
+unfolding markedAnswer unmarked
 first-remainder c = c .rounded .ensures .0 ∙ sym (line-9 _ _ _)
 
 -- the divisor is the values after steps 6 to 8

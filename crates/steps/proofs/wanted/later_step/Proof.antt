@@ -3,7 +3,8 @@ use mathlib.Core.Path.{_≡_, refl}
 use Prim.Native.Nat.{ℕ, _-_, _≤_}
 use native.Mathlib.Omega.{arith}
 use borrow.Author.Needs.{needs}
-use Rattle.numbers.specs.Answer.{Outcome, outcome}
+use Rattle.numbers.specs.Accuracy.{outcome}
+use Rattle.numbers.specs.Answer.{Outcome}
 use Rattle.numbers.specs.Rounding.{byMode}
 use Rattle.numbers.specs.declared.task.Mode.the-variants.{Trunc, Away}
 use Rattle.numbers.specs.declared.task.Task.{Task}

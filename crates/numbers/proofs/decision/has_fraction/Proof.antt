@@ -1,4 +1,4 @@
--- `numbers::rounding::has_fraction` meets its contract: the word is not 0, or the flag is the last bit.
+-- `numbers::decision::has_fraction` meets its contract: the word is not 0, or the flag is the last bit.
 use mathlib.Core.Path.{_≡_, sym}
 use mathlib.Core.Bool.{Bool, true, false}
 use Prim.Native.Nat.{ℕ, _+_, _*_, _≤_, _<_}
@@ -6,8 +6,8 @@ use native.Mathlib.Omega.{arith}
 use borrow.Author.Tests.{lt-ltb, le-ltb}
 use lib.Dec.{ltb}
 use Rattle.numbers.specs.Grid.{bitOf}
-use Rattle.numbers.proofs.rounding.has_fraction.Statement.{statement}
-use Rattle.numbers.proofs.rounding.has_fraction.Tie as tie
+use Rattle.numbers.proofs.decision.has_fraction.Statement.{statement}
+use Rattle.numbers.proofs.decision.has_fraction.Tie as tie
 
 word : (f : ℕ) (rest : Bool) → 0 < f → true ≡ ltb 0 (2 * f + bitOf rest)
 word f rest h = sym (lt-ltb 0 (2 * f + bitOf rest) (omega arith))

@@ -1,4 +1,4 @@
--- `numbers::rounding::goes_up` meets its contract: in each mode the tests on the fraction's word and on the rest are those of `goesUp`.
+-- `numbers::decision::goes_up` meets its contract: in each mode the tests on the fraction's word and on the rest are those of `goesUp`.
 use mathlib.Core.Path.{_≡_, refl, sym, ap, _∙_}
 use mathlib.Core.Bool.{Bool, true, false, not}
 use Prim.Native.Nat.{ℕ, _+_, _*_, _%_, _^_, _≤_, _<_}
@@ -10,8 +10,8 @@ use Rattle.numbers.specs.Grid.{bitOf}
 use Rattle.numbers.specs.Rounding.{goesUp}
 use Rattle.numbers.specs.declared.task.Mode.{Mode}
 use Rattle.numbers.specs.declared.task.Mode.the-variants.{Trunc, Away, Near, Sticky, Up, Down}
-use Rattle.numbers.proofs.rounding.goes_up.Statement.{statement}
-use Rattle.numbers.proofs.rounding.goes_up.Tie as tie
+use Rattle.numbers.proofs.decision.goes_up.Statement.{statement}
+use Rattle.numbers.proofs.decision.goes_up.Tie as tie
 
 -- nothing was dropped: no mode goes up
 exact : (mode : Mode) (negative : Bool) (q : ℕ) → goesUp mode negative q 0 (2 ^ 65) ≡ false

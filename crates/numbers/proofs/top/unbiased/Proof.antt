@@ -1,4 +1,4 @@
--- `numbers::rounding::unbiased` meets its contract: a biased exponent less 65,535 is `minus`.
+-- `numbers::top::unbiased` meets its contract: a biased exponent less 65,535 is `minus`.
 use mathlib.Core.Path.{_≡_, ap, _∙_}
 use Prim.Native.Nat.{ℕ, _≤_}
 use native.Mathlib.Omega.{arith}
@@ -11,8 +11,8 @@ use mir.Val.{SFits, toZ}
 use Rattle.numbers.specs.Biased.{bias, highestBiased}
 use Rattle.numbers.proofs.Laws.Minus.{pos-minus}
 use Rattle.numbers.proofs.Laws.SignedWords.{minus-fits}
-use Rattle.numbers.proofs.rounding.unbiased.Statement.{statement}
-use Rattle.numbers.proofs.rounding.unbiased.Tie as tie
+use Rattle.numbers.proofs.top.unbiased.Statement.{statement}
+use Rattle.numbers.proofs.top.unbiased.Tie as tie
 
 module _ (b : ℕ) (h : b ≤ highestBiased) where
   difference-is : toZ w32 b -ℤ pos bias ≡ minus b bias

@@ -1,4 +1,4 @@
--- `numbers::rounding::is_inside` meets its contract: the two tests are the two ends of the working exponents, for (exponent + 127) - (2^31 + zeros).
+-- `numbers::top::is_inside` meets its contract: the two tests are the two ends of the working exponents, for (exponent + 127) - (2^31 + zeros).
 use mathlib.Core.Path.{_≡_, sym, _∙_}
 use mathlib.Core.Bool.{false}
 use Prim.Native.Nat.{ℕ, _+_, _-_, _≤_, _<_}
@@ -12,8 +12,8 @@ use lib.Ieee.{minus}
 use Rattle.numbers.specs.Biased.{raise, highestBiased}
 use Rattle.numbers.specs.Number.{isWorkingExponent}
 use Rattle.numbers.proofs.Laws.Bias.{too-low, too-high, working}
-use Rattle.numbers.proofs.rounding.is_inside.Statement.{statement}
-use Rattle.numbers.proofs.rounding.is_inside.Tie as tie
+use Rattle.numbers.proofs.top.is_inside.Statement.{statement}
+use Rattle.numbers.proofs.top.is_inside.Tie as tie
 
 below : (x z : ℕ) → x < z + 2147417986 → false ≡ isWorkingExponent (minus (x + 127) (raise + z))
 unfolding raise

@@ -1,6 +1,7 @@
--- What a reader must believe of the crate `depot`, in document 01's order: what a record counts as, its rate and the figures of two sums (Figures), the
--- rate of fuel over a distance (Rate), the depot's state, what loading a block and asking for figures answer (Depot), the book that is kept from the offered blocks, the vans taken and their mean
--- (Book), a list of calls and its replies (Calls), and what demand 3 says of every such list (Demand). Blocks and records are those of the crate `blocks`.
+-- What a reader must believe of the crate `depot`, in document 01's order: what a record counts as, its rate and the figures of two sums (Figures), what
+-- asking for a rate answers (Rate), the depot's state, what loading a block and asking for figures answer (Depot), the book that is kept from the offered
+-- blocks, the vans taken and their mean (Book), a list of calls and its replies (Calls), and what demand 3 says of every such list (Demand). Blocks and
+-- records are those of the crate `blocks`.
 -- Sequence has the terms that the laws of written blocks are stated in, Room those of private contracts; no promise of a public function cites them.
 -- Definitions only; the laws stand in proofs.
 pub mod Figures

@@ -12,23 +12,24 @@ use Rattle.numbers.specs.declared.answer.Accuracy.the-variants.{Below, Exact, A
 use Rattle.numbers.specs.declared.number.Number.{Number}
 use Rattle.export.specs.Layout.{layoutOf, numberIn}
 
--- an accuracy as a sign: −1 below, 0 exact, 1 above
+-- the mark that C gets of an accuracy: −1 below, 0 exact, 1 above
 unfoldable pub ternaryOf : Accuracy → ℤ
 ternaryOf Below = negℤ (pos 1)
 ternaryOf Exact = pos 0
 ternaryOf Above = pos 1
 
--- what a call leaves: its answer, and the bytes of `result` and the sign in `accuracy` at its exit
+-- what a call leaves: its answer, and at its exit the bytes of `result` and the mark in `accuracy`
 pub record Call : Type 0 where
   pub answer : ℕ
   pub bytes : List ℕ
   pub accuracy : ℤ
 
--- an answer with the bytes and the sign at exit
+-- an answer with the bytes and the mark at exit
 unfoldable pub call : ℕ → List ℕ → ℤ → Call
 call answer bytes accuracy = record { answer = answer; bytes = bytes; accuracy = accuracy }
 
--- What an outcome leaves of the bytes `old` and the sign `was`: 0 with the number's bytes and the sign of its accuracy, or the row that refused with the old ones.
+-- What an outcome leaves of the bytes `old` and the mark `was`: 0 with the number's bytes and the mark of its accuracy, or the row that refused with both
+-- as they were.
 unfoldable pub leftBy : Marked → List ℕ → ℤ → Call
 leftBy (markedAs x accuracy) old was = call 0 (layoutOf x) (ternaryOf accuracy)
 leftBy (refusedBy row) old was = call row old was
@@ -43,7 +44,7 @@ operated operation none y old was = call 64 old was
 unfoldable pub isSixteen : ℕ → Bool
 isSixteen n = eqb n 16
 
--- What a call leaves, of the bytes of its operands, the old bytes of `result` and the old sign: 9 where one of the three has not sixteen bytes.
+-- What a call leaves, of the bytes of its operands, the old bytes of `result` and the old mark: 9 where one of the three has not sixteen bytes.
 unfoldable pub callOf : (Number → Number → Marked) → List ℕ → List ℕ → List ℕ → ℤ → Call
 callOf operation a b old was =
     cond (isSixteen (length a) && (isSixteen (length b) && isSixteen (length old)))

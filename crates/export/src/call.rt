@@ -88,7 +88,7 @@ pub(crate) fn quotient_outcome(answer: Quotient) -> Outcome
     }
 }
 
-// An accuracy as a sign: −1, 0 or 1 where the result lies below, at or above the exact one.
+// The mark of an accuracy: −1, 0 or 1 where the result lies below, at or above the exact one.
 fn ternary_of(accuracy: Accuracy) -> i8
     ensures { λ r. ⌜ r ≡ ternaryOf accuracy ⌝ }
 {

@@ -21,7 +21,8 @@ use Rattle.codes.specs.Codes.{doubleExtended, binary64, exponentBits, allOnes, 
 use Rattle.division.specs.Quotient.{isZero, unlessIndivisible, quotientOf}
 use Rattle.division.specs.Seed.{nearest, entryOf}
 
--- what an operation, a division or a reading answers, and with it where its number lies; what a writing leaves, its refusal and its bytes as one whole number; or an entry of the seed table
+-- what an operation, a division or a reading answers; a division's answer with its mark; what a writing leaves, its refusal and its bytes as one whole
+-- number; or an entry of the seed table
 pub data Result : Type 0 where
   answered : Outcome → Result
   measured : Marked → Result

@@ -14,7 +14,8 @@ pub mod Fractions
 pub mod Scaled
 pub mod Exact
 -- Rounding, for any fraction, mode and n: the exponent that two inequalities name, whole numbers and cells, the value alone, what may stand for
--- a value, how far a rounding moves it, and that the result is fit; whole numbers of grids: their bits, tasks, multiples, and sticky; where a result lies, marked outcomes, and every value of a cell
+-- a value, how far a rounding moves it, and that the result is fit; whole numbers of grids: their bits, tasks, multiples, and sticky; where a result
+-- lies, marked outcomes, and every value of a cell
 pub mod Exponent
 pub mod Whole
 pub mod Cell

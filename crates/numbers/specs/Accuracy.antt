@@ -11,7 +11,7 @@ use Rattle.numbers.specs.declared.answer.Answer.the-variants.{Given, Unk
 use Rattle.numbers.specs.declared.number.Number.{Number}
 use Rattle.numbers.specs.declared.task.Task.{Task}
 
--- where the result y lies, the true value being x. Signs count: −1/4 lies above −1/3.
+-- where the result y lies, the true value being x: y ≤ x and x ≤ y is Exact, y ≤ x alone Below, else Above. Signs count: −1/4 lies above −1/3.
 unfoldable pub accuracyOf : Fraction → Fraction → Accuracy
 accuracyOf y x = cond (isAtMost y x) (cond (isAtMost x y) Exact Below) Above
 

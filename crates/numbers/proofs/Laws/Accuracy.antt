@@ -1,5 +1,5 @@
--- Where a result lies, seen from the true value: what each of the three accuracies means, that values alone count, that values which no multiple of a grid tells apart
--- have one accuracy where the result is such a multiple, and the accuracy of two whole numbers of one grid.
+-- Where a result lies, seen from the true value: what each of the three accuracies means, that values alone count, that a multiple of a grid lies alike
+-- against values which no multiple tells apart, and the accuracy of two whole numbers of one grid.
 use mathlib.Core.Path.{_≡_, refl, sym, _∙_}
 use mathlib.Core.Bool.{Bool, true, false, cond}
 use mathlib.Core.Logic.{_↔_, Iff·symm, Iff·trans}

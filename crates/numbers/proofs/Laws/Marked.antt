@@ -1,5 +1,5 @@
--- Marked outcomes: equal values have one, and so have values that no multiple of a fine grid tells apart; a task that gives a number gives a rounding, and a claim
--- that holds gives the value.
+-- Marked outcomes: equal values have one, and so have values that no multiple of a fine grid tells apart; a task that gives a number gives a rounding,
+-- and a claim that holds gives the value.
 use mathlib.Core.Path.{_≡_, refl, sym, ap, _∙_}
 use mathlib.Core.Bool.{Bool, true, false, cond}
 use Prim.Native.Nat.{ℕ, _*_, _^_, _≤_}

@@ -3,8 +3,9 @@
 pub mod Range
 pub mod Admissible
 pub mod Quotients
--- What is refused before
+-- What is refused before, and an answer that is a number
 pub mod Divisible
+pub mod Given
 -- The seed table, and a Newton step of the reciprocal
 pub mod Seeds
 pub mod Newton

@@ -1,5 +1,5 @@
 -- The theorem that joins the steps to the quotient (`division`, at the end), from the laws of the steps.
-use mathlib.Core.Path.{_≡_, refl, sym, subst, ap, ap₂, _∙_}
+use mathlib.Core.Path.{_≡_, refl, sym, subst, ap, _∙_}
 use mathlib.Core.Bool.{Bool, true, false, not, cond, false≢true}
 use Prim.Native.Nat.{ℕ, _≤_}
 use native.Mathlib.Omega.{arith}
@@ -8,12 +8,11 @@ use lib.Dec.{ltb, lit≤}
 use lib.Ieee.{minus}
 use lib.IntN.{ℤ}
 use Rattle.numbers.specs.Biased.{bias}
-use Rattle.numbers.specs.Accuracy.{markedAs, refusedBy, accuracyOf, marked}
+use Rattle.numbers.specs.Accuracy.{accuracyOf, marked}
 use Rattle.numbers.specs.Answer.{Outcome, given, refused, rounded, unlessUnknown, unlessUnfit}
 use Rattle.numbers.specs.Fraction.{value, quotient}
 use Rattle.numbers.specs.Number.{isWorking, isAdmissible}
 use Rattle.numbers.specs.Rounding.{round, byMode, taskOf, isPrecision}
-use Rattle.numbers.specs.declared.answer.Accuracy.{Accuracy}
 use Rattle.numbers.specs.declared.number.Number.{Number}
 use Rattle.numbers.specs.declared.number.Number.the-variants.{Zero, Finite}
 use Rattle.numbers.specs.declared.task.Mode.{Mode}
@@ -24,9 +23,9 @@ use Rattle.numbers.proofs.Laws.Tests.{never}
 use Rattle.division.specs.Quotient.{isZero, markedQuotient, unlessIndivisible, quotientOf}
 use Rattle.division.specs.Judgement.{IsTaken}
 use Rattle.division.specs.declared.answer.Quotient.{Quotient}
-use Rattle.division.specs.declared.answer.Quotient.the-variants as answer
 use Rattle.division.proofs.Laws.Admissible.{admissible-parts}
 use Rattle.division.proofs.Laws.Divisible.{taken, quotient-taken}
+use Rattle.division.proofs.Laws.Given.{given-quotient}
 use Rattle.division.proofs.Laws.Range.{InRange, lowestAdmissible}
 use Rattle.steps.specs.Steps.{afterStep}
 use Rattle.steps.specs.Theorem.{IsDivided, IsAnswered, IsAnswer, Division}
@@ -133,7 +132,7 @@ module _ (p d : Number) (code n : ℕ) where
       unless-related (λ (x y : Outcome). IsAnswer 5 x) p d code n answer answer (λ (j : ℕ) (l : 1 ≤ j) (h : j ≤ 5). (l, h))
       (λ (is : IsTaken p d code n). rw (← coded-once is) (coded-answer 5 32 is (lit≤ tt) (lit≤ tt)))
 
--- an answer that is read as a number is that number
+-- an answer of the step entry that is read as a number is that number
 refused-given : (k : ℕ) (x : Number) → refused k ≡ given x → ⊥
 refused-given k x e = never cc
 
@@ -148,18 +147,6 @@ given-step step.ZeroDivisor x e = absurd (refused-given 5 x e)
 given-step step.NoSuchStep x e = absurd (refused-given 6 x e)
 given-step step.ExponentOutside x e = absurd (refused-given 7 x e)
 given-step step.TooManyBits x e = absurd (refused-given 8 x e)
-
-refused-marked : (k : ℕ) (x : Number) (mark : Accuracy) → refusedBy k ≡ markedAs x mark → ⊥
-refused-marked k x mark e = never cc
-
-given-quotient : (r : Quotient) (x : Number) (mark : Accuracy) → markedQuotient r ≡ markedAs x mark → r ≡ answer.Given x mark
-unfolding markedQuotient
-given-quotient (answer.Given y own) x mark e = let same : y ≡ x = cc in let alike : own ≡ mark = cc in ap₂ answer.Given same alike
-given-quotient answer.UnknownMode x mark e = absurd (refused-marked 1 x mark e)
-given-quotient answer.BadPrecision x mark e = absurd (refused-marked 2 x mark e)
-given-quotient answer.FirstUnfit x mark e = absurd (refused-marked 3 x mark e)
-given-quotient answer.SecondUnfit x mark e = absurd (refused-marked 4 x mark e)
-given-quotient answer.ZeroDivisor x mark e = absurd (refused-marked 5 x mark e)
 
 -- where no row applies, the step entry gives the value of the table and the quotient entry the exact quotient rounded once
 module _ (p d : Number) (code n : ℕ) (is : IsTaken p d code n) where

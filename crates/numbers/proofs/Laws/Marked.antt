@@ -5,7 +5,7 @@ use mathlib.Core.Bool.{Bool, true, false, cond}
 use Prim.Native.Nat.{ℕ, _*_, _^_, _≤_}
 use lib.Dec.{T, eqb, eqb→eq}
 use lib.IntN.{natAbs}
-use Rattle.numbers.specs.Accuracy.{markedAs, accuracyOf, marked, markedBy, unmarked}
+use Rattle.numbers.specs.Accuracy.{markedAs, accuracyOf, marked, markedBy, markedAnswer, unmarked}
 use Rattle.numbers.specs.Answer.{Outcome, given, refused, rounded, claimed, judged}
 use Rattle.numbers.specs.Fraction.{Fraction, IsFraction, Equal, value}
 use Rattle.numbers.specs.Grid.{Alike}
@@ -14,6 +14,8 @@ use Rattle.numbers.specs.Number.{isWorkingExponent}
 use Rattle.numbers.specs.Rounding.{exponentOf, round, hasAtMostBits, precisionOf}
 use Rattle.numbers.specs.declared.answer.Accuracy.{Accuracy}
 use Rattle.numbers.specs.declared.answer.Accuracy.the-variants as accuracy
+use Rattle.numbers.specs.declared.answer.Answer.{Answer}
+use Rattle.numbers.specs.declared.answer.Answer.the-variants as answer
 use Rattle.numbers.specs.declared.number.Number.{Number}
 use Rattle.numbers.specs.declared.number.Number.the-variants.{Zero}
 use Rattle.numbers.specs.declared.task.Mode.{Mode}
@@ -47,6 +49,17 @@ marked-alike : (x y : Fraction) (o : Outcome) → ((z : Number) → o ≡ given 
 unfolding marked
 marked-alike x y (given z) h = ap (markedAs z) (h z refl)
 marked-alike x y (refused k) h = refl
+
+-- an answer that is marked as a number is the case of it
+pub given-answer : (a : Answer) (x : Number) (mark : Accuracy) → markedAnswer a ≡ markedAs x mark → a ≡ answer.Given x mark
+unfolding markedAnswer
+given-answer (answer.Given y own) x mark e = cc
+given-answer answer.UnknownMode x mark e = never cc
+given-answer answer.BadPrecision x mark e = never cc
+given-answer answer.FirstUnfit x mark e = never cc
+given-answer answer.SecondUnfit x mark e = never cc
+given-answer answer.ExponentOutside x mark e = never cc
+given-answer answer.TooManyBits x mark e = never cc
 
 -- ---- what a task gives
 

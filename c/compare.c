@@ -45,7 +45,7 @@ static const char *const mode_names[MODES] = {"trunc", "away", "near",  "sticky"
                                               "up",    "down", "exact", "other"};
 static const uint32_t codes[] = {0, 1, 2, 3, 4, 5, 7, 8, 9, 64};
 enum { CODES = sizeof codes / sizeof codes[0] };
-static const char *const accuracy_names[] = {"below", "at", "above"};
+static const char *const accuracy_names[] = {"below", "exact", "above"};
 enum { ACCURACIES = sizeof accuracy_names / sizeof accuracy_names[0] };
 
 static unsigned long mode_counts[OPERATIONS][MODES], code_counts[OPERATIONS][CODES];
@@ -209,13 +209,12 @@ static int is_enough(void) {
         }
         for (size_t i = 0; i < ACCURACIES; i++) {
             if (accuracy_counts[op][i] > 0) continue;
-            printf("no result of %s lies %s the exact one\n", operation_names[op], accuracy_names[i]);
+            printf("no result of %s is marked %s\n", operation_names[op], accuracy_names[i]);
             enough = 0;
         }
     }
     return enough;
 }
-
 
 int main(void) {
     int enough;

@@ -1,4 +1,4 @@
-/* Divides 1 by 3 downward and upward and by 4, and by zero, which is refused. From the repository's root:
+/* Divides 1 by 4, by 3 downward and upward, and by zero, which is refused. From the repository's root:
  *
  *     rt staticlib export
  *     gcc -std=c99 -Wall -Wextra -Werror -o target/example c/example.c target/staticlib/libexport.a

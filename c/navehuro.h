@@ -60,7 +60,10 @@ enum {
                             not for division */
 };
 
-/* Where a result lies: below the exact one, at it or above it, signs counted. */
+/*
+ * Where a result lies: below the exact one, at it or above it. Signs count: -1/4 lies above -1/3. Zero is
+ * exact, and so is every result of NAVEHURO_EXACT.
+ */
 enum {
     NAVEHURO_RESULT_BELOW = -1,
     NAVEHURO_RESULT_EXACT = 0,
@@ -72,7 +75,7 @@ enum {
  * other refusals from 1 on: the first that applies is the answer.
  */
 enum {
-    NAVEHURO_WRITTEN = 0,          /* the result is written */
+    NAVEHURO_WRITTEN = 0,          /* result and accuracy are written */
     NAVEHURO_UNKNOWN_MODE = 1,     /* mode above 6, for division above 5 */
     NAVEHURO_BAD_PRECISION = 2,    /* precision not 1 to 64 */
     NAVEHURO_FIRST_UNFIT = 3,      /* a is unfit */
@@ -97,6 +100,9 @@ enum {
  *   that lies against the exact sum, difference, product or quotient; or the answer is a refusal, and
  *   result and accuracy are as they were. No other byte is written.
  * - Nothing is kept between calls, so threads may call at the same time on buffers of their own.
+ *
+ * In an earlier version the functions had no accuracy. An object that was compiled for that version still
+ * links with this archive, and is wrong: its calls have to pass accuracy, and it has to be compiled anew.
  */
 
 /* a + b, rounded once to precision bits. */

@@ -52,7 +52,7 @@ class Offer(NamedTuple):
 
 
 class Rate(NamedTuple):
-    """A rate asked for, and what the model answers."""
+    """A rate asked for."""
 
     fuel: int
     distance: int
@@ -61,6 +61,7 @@ class Rate(NamedTuple):
 
     @property
     def answer(self) -> Rounded | Refused:
+        """What the model answers."""
         return rate_with_side(self.fuel, self.distance, self.code, self.precision)
 
 

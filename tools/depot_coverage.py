@@ -17,6 +17,8 @@ RATE_ROWS = (1, 2, 5)
 # What is asserted: blocks offered, sequences, and how often each row refuses and each rule of a
 # block's layout and of its records is the only one broken.
 LEAST_OFFERS, LEAST_SEQUENCES, LEAST_REFUSALS, LEAST_BROKEN = 400, 60, 10, 5
+# How often each row refuses a rate.
+LEAST_RATES_REFUSED = 2
 
 
 def rows_of(offer: Offer) -> set[int]:
@@ -139,7 +141,7 @@ def check_rates(rates: list[Rate]) -> Counter:
     answers = [rate.answer for rate in rates]
     counts = Counter(x.number if isinstance(x, Refused) else MARKS[x.side] for x in answers)
     assert set(counts) == {*RATE_ROWS, *MARKS.values()}
-    assert all(counts[row] >= 2 for row in RATE_ROWS), counts
+    assert all(counts[row] >= LEAST_RATES_REFUSED for row in RATE_ROWS), counts
     marks = {(rate.code, x.side) for rate, x in zip(rates, answers) if not isinstance(x, Refused)}
     # A rate is not negative: trunc and down give none above, away and up none below.
     assert marks == {(mode, side) for mode in range(model.EXACT) for side in MARKS

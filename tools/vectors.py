@@ -27,6 +27,7 @@ import damage_cases
 import depot_cases
 import depot_coverage
 import division_cases
+import mark_coverage
 import rate_cases
 import rounding_cases
 import state_cases
@@ -51,12 +52,13 @@ def write(crate: str, given: list[bytes], wanted: list[str]) -> None:
 
 def known() -> None:
     """Makes the cases of `known` and prints how many of each kind there are."""
-    given, wanted = [], []
+    every = []
     for kind in (kind for family in FAMILIES for kind in family.KINDS):
-        cases = list(kind(random.Random(kind.__name__)))
-        given += [padded(case.text) for case in cases]
-        wanted += [case.answer for case in cases]
+        cases = [(case.text, case.answer) for case in kind(random.Random(kind.__name__))]
+        every += cases
         print(f"{len(cases):5} {kind.__module__} {kind.__name__}")
+    mark_coverage.check(every)
+    given, wanted = [padded(text) for text, _ in every], [answer for _, answer in every]
     lines = [line for family in FAMILIES for line in family.NO_CASES.splitlines()]
     given += [padded(line) for line in lines]
     wanted += ["not a case"] * len(lines)

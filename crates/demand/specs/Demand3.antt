@@ -4,7 +4,8 @@ use Rattle.depot.specs.Demand.{CallsHold, RunsHold}
 use Rattle.reporting.specs.Demand.{ReportsHold}
 
 pub record Demand3 : Type 0 where
-  -- no step fails its claim, step 32 is the exact quotient rounded once, and 7 and 8 never leave a division
+  -- no step fails its claim, step 32 is the exact quotient rounded once, the quotient is marked by where it lies against the exact one, and 7 and 8 never
+  -- leave a division
   pub division : Division
   -- the book, the counts, the replies, the figures and the bracket of every list of calls
   pub depot : CallsHold

@@ -4,7 +4,7 @@ use Prim.Native.Nat.{ℕ}
 use Rattle.numbers.specs.Number.{isAdmissible}
 use Rattle.numbers.specs.Fraction.{value, quotient}
 use Rattle.numbers.specs.Rounding.{taskOf}
-use Rattle.numbers.specs.Accuracy.{Marked, markedAs, refusedBy, unmarked}
+use Rattle.numbers.specs.Accuracy.{Marked, markedAs, refusedBy}
 use Rattle.numbers.specs.Answer.{Outcome, refused, rounded, unlessUnknown, unlessEitherUnfit}
 use Rattle.numbers.specs.declared.number.Number.{Number}
 use Rattle.numbers.specs.declared.number.Number.the-variants.{Zero, Finite}
@@ -13,16 +13,12 @@ use Rattle.division.specs.declared.answer.Quotient.the-variants.{Given, 
 
 -- "Where an answer is an enum, a definition gives this paper's number and values for each case of the enum"
 unfoldable pub markedQuotient : Quotient → Marked
-markedQuotient (Given x accuracy) = markedAs x accuracy
+markedQuotient (Given x mark) = markedAs x mark
 markedQuotient UnknownMode = refusedBy 1
 markedQuotient BadPrecision = refusedBy 2
 markedQuotient FirstUnfit = refusedBy 3
 markedQuotient SecondUnfit = refusedBy 4
 markedQuotient ZeroDivisor = refusedBy 5
-
--- the number or the refusal alone
-abbrev pub quotientOutcome : Quotient → Outcome
-quotientOutcome r = unmarked (markedQuotient r)
 
 unfoldable pub isZero : Number → Bool
 isZero Zero = true

@@ -8,15 +8,15 @@ use lib.ListN.{length}
 use lib.IntN.{ℤ, pos, negℤ}
 use Rattle.numbers.specs.Accuracy.{Marked, markedAs, refusedBy}
 use Rattle.numbers.specs.declared.answer.Accuracy.{Accuracy}
-use Rattle.numbers.specs.declared.answer.Accuracy.the-variants.{Below, Exact, Above}
+use Rattle.numbers.specs.declared.answer.Accuracy.the-variants as accuracy
 use Rattle.numbers.specs.declared.number.Number.{Number}
 use Rattle.export.specs.Layout.{layoutOf, numberIn}
 
 -- the mark that C gets of an accuracy: −1 below, 0 exact, 1 above
 unfoldable pub ternaryOf : Accuracy → ℤ
-ternaryOf Below = negℤ (pos 1)
-ternaryOf Exact = pos 0
-ternaryOf Above = pos 1
+ternaryOf accuracy.Below = negℤ (pos 1)
+ternaryOf accuracy.Exact = pos 0
+ternaryOf accuracy.Above = pos 1
 
 -- what a call leaves: its answer, and at its exit the bytes of `result` and the mark in `accuracy`
 pub record Call : Type 0 where
@@ -28,10 +28,10 @@ pub record Call : Type 0 where
 unfoldable pub call : ℕ → List ℕ → ℤ → Call
 call answer bytes accuracy = record { answer = answer; bytes = bytes; accuracy = accuracy }
 
--- What an outcome leaves of the bytes `old` and the mark `was`: 0 with the number's bytes and the mark of its accuracy, or the row that refused with both
+-- What a marked outcome leaves of the bytes `old` and the mark `was`: 0 with the number's bytes and the mark of its accuracy, or the row that refused with both
 -- as they were.
 unfoldable pub leftBy : Marked → List ℕ → ℤ → Call
-leftBy (markedAs x accuracy) old was = call 0 (layoutOf x) (ternaryOf accuracy)
+leftBy (markedAs x mark) old was = call 0 (layoutOf x) (ternaryOf mark)
 leftBy (refusedBy row) old was = call row old was
 
 -- What two operands leave, by their operation: 64 where one of them is no number.

@@ -30,7 +30,7 @@ pairOf none y = NoNumber
 unfoldable pub operandsOf : List ℕ → List ℕ → ℕ → Operands
 operandsOf a b n = cond (isSixteen (length a) && (isSixteen (length b) && isSixteen n)) (pairOf (numberIn a) (numberIn b)) WrongLength
 
--- an outcome of the code, as one of the definitions
+-- an outcome of the code, as a marked one of the definitions
 unfoldable pub outcomeOf : Outcome → Marked
-outcomeOf (outcome.Given x accuracy) = markedAs x accuracy
+outcomeOf (outcome.Given x mark) = markedAs x mark
 outcomeOf (outcome.Refused row) = refusedBy row

@@ -17,9 +17,9 @@ use Rattle.meaning.specs.Meaning.{HasBits}
 use Rattle.meaning.proofs.Between.{equal-bits, round-bits, bits-mean}
 
 module _ (n : ℕ) (x : Fraction) (x0 : IsFraction x) (n0 : 1 ≤ n) (n1 : n ≤ 64) where
-  -- A rounding comes out even just where x is a number of n bits.
-  pub even-bits : (mode : Mode) → (accuracyOf (value (round mode n x)) x ≡ accuracy.Exact) ↔ HasBits n x
-  even-bits mode =
+  -- A rounding is exact just where x is a number of n bits.
+  pub exact-bits : (mode : Mode) → (accuracyOf (value (round mode n x)) x ≡ accuracy.Exact) ↔ HasBits n x
+  exact-bits mode =
       let y = value (round mode n x) in (
         λ h. equal-bits x y x0 (equal-back y x (exact-means y x .0 h)) (round-bits mode n x x0 n0 n1),
         λ b. exact-means y x .1 (kept x n x0 n0 n1 mode (bits-mean n x x0 n0 n1 .0 b)),

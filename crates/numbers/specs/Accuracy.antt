@@ -2,18 +2,18 @@
 -- says: a number with its accuracy, measured against the exact value, or a refusal.
 use mathlib.Core.Bool.{cond}
 use Prim.Native.Nat.{ℕ}
-use Rattle.numbers.specs.Fraction.{Fraction, isAtMost, value}
+use Rattle.numbers.specs.Fraction.{Fraction, isEqual, isAtMost, value}
 use Rattle.numbers.specs.Answer.{Outcome, given, refused, rounded}
 use Rattle.numbers.specs.declared.answer.Accuracy.{Accuracy}
-use Rattle.numbers.specs.declared.answer.Accuracy.the-variants.{Below, Exact, Above}
+use Rattle.numbers.specs.declared.answer.Accuracy.the-variants as accuracy
 use Rattle.numbers.specs.declared.answer.Answer.{Answer}
 use Rattle.numbers.specs.declared.answer.Answer.the-variants.{Given, UnknownMode, BadPrecision, FirstUnfit, SecondUnfit, ExponentOutside, TooManyBits}
 use Rattle.numbers.specs.declared.number.Number.{Number}
 use Rattle.numbers.specs.declared.task.Task.{Task}
 
--- where the result y lies, the true value being x: y ≤ x and x ≤ y is Exact, y ≤ x alone Below, else Above. Signs count: −1/4 lies above −1/3.
+-- where the result y lies, the true value being x. Signs count: −1/4 lies above −1/3.
 unfoldable pub accuracyOf : Fraction → Fraction → Accuracy
-accuracyOf y x = cond (isAtMost y x) (cond (isAtMost x y) Exact Below) Above
+accuracyOf y x = cond (isEqual y x) accuracy.Exact (cond (isAtMost y x) accuracy.Below accuracy.Above)
 
 -- a number with its accuracy, or the number of the table's row that refuses
 pub data Marked : Type 0 where
@@ -31,7 +31,7 @@ markedBy task x = marked x (rounded task x)
 
 -- "Where an answer is an enum, a definition gives this paper's number and values for each case of the enum"
 unfoldable pub markedAnswer : Answer → Marked
-markedAnswer (Given x accuracy) = markedAs x accuracy
+markedAnswer (Given x mark) = markedAs x mark
 markedAnswer UnknownMode = refusedBy 1
 markedAnswer BadPrecision = refusedBy 2
 markedAnswer FirstUnfit = refusedBy 3
@@ -41,7 +41,7 @@ markedAnswer TooManyBits = refusedBy 8
 
 -- the number or the refusal alone, of what is marked and of an answer
 unfoldable pub unmarked : Marked → Outcome
-unmarked (markedAs y accuracy) = given y
+unmarked (markedAs y mark) = given y
 unmarked (refusedBy k) = refused k
 
 abbrev pub outcome : Answer → Outcome

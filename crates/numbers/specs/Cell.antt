@@ -35,7 +35,8 @@ unfoldable pub cellRounding : Bool → ℕ → Bool → ℤ → Task → Marked
 cellRounding negative F rest e task = cond (not (isPrecision (precisionOf task))) (refusedBy 2) (markedBy task (binary negative (endOf F rest) e))
 
 -- The answer is the rounding of every value of the cell, and its mark that of every value, where the cell has no rest, or two bits more than the task
--- asks. With one bit more the odd end may be rounded otherwise than the values, and in a shorter cell the values themselves may differ.
+-- asks. With one bit more the odd end may be rounded otherwise than the values, and in a shorter cell the values themselves may differ; the answer is then
+-- the odd end's, and Exact says that it is the odd end, which need not be a value of the cell.
 unfoldable pub RoundsEvery : Marked → Bool → ℕ → Bool → ℤ → Task → Type 0
 RoundsEvery answer negative F rest e task =
     isPrecision (precisionOf task) ≡ true → (rest ≡ true → 2 * 2 ^ precisionOf task ≤ F)

@@ -26,8 +26,8 @@ const RAISE: i64 = 2_147_483_648;
 
 // The rounding of a cell, once by the task: F × 2^exponent with F in two words, and a sign. With a rest
 // the magnitude lies above that, by less than 2^exponent. Every value there is rounded to the one answer
-// where there is no rest, or F has two bits more than the task asks; the answer then lies alike against
-// all of them.
+// where there is no rest, or F has two bits more than the task asks, and the answer lies alike against all
+// of them; else the answer and its mark are those of F made odd, and may be those of no value there.
 pub fn round_cell(negative: bool, cell: Cell, exponent: i32, task: Task) -> Answer
     ensures { λ r. ⌜ (markedAnswer r ≡ cellRounding negative (wide (cell .high) (cell .low)) (cell .rest) exponent task) × RoundsEvery (markedAnswer r) negative (wide (cell .high) (cell .low)) (cell .rest) exponent task ⌝ }
 {

@@ -174,6 +174,7 @@ module _ (p d : Number) (code n : ℕ) (is : IsTaken p d code n) where
   }
 
 -- The theorem, whole: for every admissible dividend, every admissible divisor but zero, the six modes and every precision from 1 to 64 the seed is near,
--- no step fails its claim, every step's exponent is working and step 32 is the exact quotient rounded once; the two entries give these values; and 7 and 8 never leave a division.
+-- no step fails its claim, every step's exponent is working and step 32 is the exact quotient rounded once; the two entries give these values, that of the
+-- quotient marked by where it lies against the exact one; and 7 and 8 never leave a division.
 pub division : Division
 division = record { joined = joined; answered = answered; last-is-quotient = last-is-quotient; step-answers = step-answers; quotient-answers = quotient-answers }

@@ -1,4 +1,4 @@
--- `export::navehuro_add` meets its contract: the outcome of the sum is left, and a refusal before it leaves the bytes alone.
+-- `export::navehuro_add` meets its contract: the outcome of the sum is left, and a refusal before it leaves bytes and mark alone.
 use borrow.Author.Needs.{needs}
 use Rattle.export.proofs.Laws.Calls.{carried, call-by, numbers-room}
 use Rattle.export.proofs.navehuro_add.Statement.{statement}

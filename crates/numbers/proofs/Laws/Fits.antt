@@ -1,12 +1,13 @@
 -- What a rounding gives is fit: its significand has the top bit set, and an outcome that is a number is a working number.
 use mathlib.Core.Path.{_≡_, refl, sym, ap}
 use mathlib.Core.Bool.{Bool, true, false, cond, and-eq-true-iff}
+use mathlib.Core.Logic.{_⊎_, inl, inr}
 use Prim.Native.Nat.{ℕ, zero, suc, _+_, _-_, _*_, _/_, _%_, _^_, _≤_, _<_}
 use native.Mathlib.Decide.{ℕ-discrete}
 use native.Mathlib.Nat.{le-of-eq, le-trans, lt-of-lt-of-le, mul-le-mul-right, mul-lt-mul-of-pos-right, le-div-iff-mul-le, div-lt-iff-lt-mul}
 use native.Mathlib.Omega.{arith}
 use borrow.Author.Tests.{le-leb, lt-ltb, eq-eqb, ne-eqb}
-use lib.Dec.{eqb}
+use lib.Dec.{T, eqb, eqb→eq}
 use lib.IntN.{ℤ, natAbs, sucℤ}
 use lib.Ieee.{up}
 use lib.Pow.{pow-pos}
@@ -133,16 +134,32 @@ trunc-working n x b0 n0 n1 w = go (natAbs (x .numerator)) refl (round-fits Trunc
         let stays = ne-eqb (q + 0) (2 ^ n) (λ (z : q + 0 ≡ 2 ^ n). omega arith) in
         rw (some, stays, w) (rw (some, stays) at f)
 
-claimed-working : (n : ℕ) (x : Fraction) (y : Number) → IsFraction x → 1 ≤ n → n ≤ 64 → claimed n x ≡ given y → isWorking y ≡ true
+-- What a claim gives: zero of zero, or the trunc of a value whose exponent is working and whose bits are few.
+abbrev pub IsClaimed : ℕ → Fraction → Number → Type 0
+IsClaimed n x y =
+    ((natAbs (x .numerator) ≡ 0) × (y ≡ Zero))
+    ⊎ ((isWorkingExponent (exponentOf (natAbs (x .numerator)) (x .denominator)) ≡ true) × (hasAtMostBits n (natAbs (x .numerator)) (x .denominator) ≡ true) × (y ≡ round Trunc n x))
+
+pub claimed-given : (n : ℕ) (x : Fraction) (y : Number) → claimed n x ≡ given y → IsClaimed n x y
 unfolding claimed judged
-claimed-working n x y x0 n0 n1 h =
-    go (eqb (natAbs (x .numerator)) 0) (isWorkingExponent (exponentOf (natAbs (x .numerator)) (x .denominator))) (hasAtMostBits n (natAbs (x .numerator)) (x .denominator)) refl h
+claimed-given n x y h =
+    go (eqb (natAbs (x .numerator)) 0) (isWorkingExponent (exponentOf (natAbs (x .numerator)) (x .denominator))) (hasAtMostBits n (natAbs (x .numerator)) (x .denominator))
+    (λ t. eqb→eq (natAbs (x .numerator)) 0 t) refl refl h
   where
-    go : (z w b : Bool) → isWorkingExponent (exponentOf (natAbs (x .numerator)) (x .denominator)) ≡ w → cond z (given Zero) (cond w (cond b (given (round Trunc n x)) (refused 8)) (refused 7)) ≡ given y → isWorking y ≡ true
-    go true w b e k = let l : y ≡ Zero = cc in rw l zero-working
-    go false true true e k = let l : y ≡ round Trunc n x = cc in rw l (trunc-working n x x0 n0 n1 e)
-    go false true false e k = never cc
-    go false false b e k = never cc
+    go : (z w b : Bool) → (T z → natAbs (x .numerator) ≡ 0) → isWorkingExponent (exponentOf (natAbs (x .numerator)) (x .denominator)) ≡ w
+        → hasAtMostBits n (natAbs (x .numerator)) (x .denominator) ≡ b → cond z (given Zero) (cond w (cond b (given (round Trunc n x)) (refused 8)) (refused 7)) ≡ given y
+        → IsClaimed n x y
+    go true w b none e f k = inl (none tt, cc)
+    go false true true none e f k = inr (e, f, cc)
+    go false true false none e f k = never cc
+    go false false b none e f k = never cc
+
+claimed-working : (n : ℕ) (x : Fraction) (y : Number) → IsFraction x → 1 ≤ n → n ≤ 64 → claimed n x ≡ given y → isWorking y ≡ true
+claimed-working n x y x0 n0 n1 h = go (claimed-given n x y h)
+  where
+    go : IsClaimed n x y → isWorking y ≡ true
+    go (inl (none, e)) = rw e zero-working
+    go (inr (w, b, e)) = rw e (trunc-working n x x0 n0 n1 w)
 
 -- what a task gives is a working number
 pub given-working : (task : Task) (x : Fraction) (y : Number) → IsFraction x → 1 ≤ precisionOf task → precisionOf task ≤ 64 → rounded task x ≡ given y → isWorking y ≡ true

@@ -1,17 +1,15 @@
 -- Marked outcomes: equal values have one, and so have values that no multiple of a fine grid tells apart; a task that gives a number gives a rounding,
 -- and a claim that holds gives the value.
 use mathlib.Core.Path.{_≡_, refl, sym, ap, _∙_}
-use mathlib.Core.Bool.{Bool, true, false, cond}
+use mathlib.Core.Logic.{inl, inr}
 use Prim.Native.Nat.{ℕ, _*_, _^_, _≤_}
-use lib.Dec.{T, eqb, eqb→eq}
 use lib.IntN.{natAbs}
 use Rattle.numbers.specs.Accuracy.{markedAs, accuracyOf, marked, markedBy, markedAnswer, unmarked}
-use Rattle.numbers.specs.Answer.{Outcome, given, refused, rounded, claimed, judged}
+use Rattle.numbers.specs.Answer.{Outcome, given, refused, rounded, claimed}
 use Rattle.numbers.specs.Fraction.{Fraction, IsFraction, Equal, value}
 use Rattle.numbers.specs.Grid.{Alike}
 use Rattle.numbers.specs.Magnitude.{told}
-use Rattle.numbers.specs.Number.{isWorkingExponent}
-use Rattle.numbers.specs.Rounding.{exponentOf, round, hasAtMostBits, precisionOf}
+use Rattle.numbers.specs.Rounding.{round, precisionOf}
 use Rattle.numbers.specs.declared.answer.Accuracy.{Accuracy}
 use Rattle.numbers.specs.declared.answer.Accuracy.the-variants as accuracy
 use Rattle.numbers.specs.declared.answer.Answer.{Answer}
@@ -22,11 +20,11 @@ use Rattle.numbers.specs.declared.task.Mode.{Mode}
 use Rattle.numbers.specs.declared.task.Mode.the-variants.{Trunc}
 use Rattle.numbers.specs.declared.task.Task.{Task}
 use Rattle.numbers.specs.declared.task.Task.the-variants.{Round, Exact}
-use Rattle.numbers.proofs.Laws.Accuracy.{accuracy-equal, accuracy-exact, accuracy-alike}
+use Rattle.numbers.proofs.Laws.Accuracy.{exact-means, accuracy-equal, accuracy-alike}
 use Rattle.numbers.proofs.Laws.Alike.{alike-rounds}
 use Rattle.numbers.proofs.Laws.Bounds.{kept}
 use Rattle.numbers.proofs.Laws.Cell.{one-outcome}
-use Rattle.numbers.proofs.Laws.Fits.{round-zero, given-round}
+use Rattle.numbers.proofs.Laws.Fits.{IsClaimed, round-zero, claimed-given, given-round}
 use Rattle.numbers.proofs.Laws.Multiples.{round-multiple}
 use Rattle.numbers.proofs.Laws.Scaled.{zero-equal, value-fraction}
 use Rattle.numbers.proofs.Laws.Tests.{never}
@@ -63,26 +61,20 @@ given-answer answer.TooManyBits x mark e = never cc
 
 -- ---- what a task gives
 
--- A claim that holds gives the trunc of the value, which is the value itself.
-pub claim-kept : (n : ℕ) (x : Fraction) (z : Number) → IsFraction x → 1 ≤ n → n ≤ 64 → claimed n x ≡ given z → (z ≡ round Trunc n x) × Equal (value z) x
-unfolding claimed judged
-claim-kept n x z x0 n0 n1 h =
-    go (eqb (natAbs (x .numerator)) 0) (isWorkingExponent (exponentOf (natAbs (x .numerator)) (x .denominator))) (hasAtMostBits n (natAbs (x .numerator)) (x .denominator))
-    (λ t. eqb→eq (natAbs (x .numerator)) 0 t) refl h
+-- A claim that holds gives the trunc of the value, which is exact.
+pub claim-exact : (n : ℕ) (x : Fraction) (z : Number) → IsFraction x → 1 ≤ n → n ≤ 64 → claimed n x ≡ given z → (z ≡ round Trunc n x) × (accuracyOf (value z) x ≡ accuracy.Exact)
+claim-exact n x z x0 n0 n1 h = go (claimed-given n x z h)
   where
-    go : (none working exact : Bool) → (T none → natAbs (x .numerator) ≡ 0) → hasAtMostBits n (natAbs (x .numerator)) (x .denominator) ≡ exact
-        → cond none (given Zero) (cond working (cond exact (given (round Trunc n x)) (refused 8)) (refused 7)) ≡ given z → (z ≡ round Trunc n x) × Equal (value z) x
-    go true working exact e b h = let k : z ≡ Zero = cc in (k ∙ sym (round-zero Trunc n x (e tt)), rw k (zero-equal x (e tt)))
-    go false true true e b h = let k : z ≡ round Trunc n x = cc in (k, rw k (kept x n x0 n0 n1 Trunc b))
-    go false true false e b h = never cc
-    go false false exact e b h = never cc
+    go : IsClaimed n x z → (z ≡ round Trunc n x) × (accuracyOf (value z) x ≡ accuracy.Exact)
+    go (inl (none, e)) = (e ∙ sym (round-zero Trunc n x none), exact-means (value z) x .1 (rw e (zero-equal x none)))
+    go (inr (w, b, e)) = (e, exact-means (value z) x .1 (rw e (kept x n x0 n0 n1 Trunc b)))
 
 -- the number that a task gives is a rounding to the task's precision
 given-mode : (task : Task) (x : Fraction) (z : Number) → IsFraction x → 1 ≤ precisionOf task → precisionOf task ≤ 64 → rounded task x ≡ given z
     → (mode : Mode) × (z ≡ round mode (precisionOf task) x)
 unfolding rounded
 given-mode (Round r) x z x0 n0 n1 h = (r .mode, given-round (r .mode) (r .precision) x z h)
-given-mode (Exact c) x z x0 n0 n1 h = (Trunc, claim-kept (c .precision) x z x0 n0 n1 h .0)
+given-mode (Exact c) x z x0 n0 n1 h = (Trunc, claim-exact (c .precision) x z x0 n0 n1 h .0)
 
 -- ---- one mark
 
@@ -106,4 +98,4 @@ alike-marks task x y i o n0 n1 x0 y0 fine alike =
 -- zero stays zero, and is exact
 pub zero-mark : (task : Task) (x : Fraction) → natAbs (x .numerator) ≡ 0 → markedBy task x ≡ markedAs Zero accuracy.Exact
 unfolding marked
-zero-mark task x none = ap (marked x) (rounded-zero task x none) ∙ ap (markedAs Zero) (accuracy-exact (value Zero) x (zero-equal x none))
+zero-mark task x none = ap (marked x) (rounded-zero task x none) ∙ ap (markedAs Zero) (exact-means (value Zero) x .1 (zero-equal x none))

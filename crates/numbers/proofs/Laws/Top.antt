@@ -17,11 +17,11 @@ use Rattle.numbers.specs.Rounding.{goesUp, wholeOf, placed, round}
 use Rattle.numbers.specs.Answer.{claimed, judged}
 use Rattle.numbers.specs.Grid.{InCell, bitOf}
 use Rattle.numbers.specs.Cell.{wide}
-use Rattle.numbers.specs.Magnitude.{between, accuracyBy}
+use Rattle.numbers.specs.Magnitude.{wholeAccuracy, accuracyBy}
 use Rattle.numbers.specs.declared.number.Number.the-variants.{Finite}
 use Rattle.numbers.specs.declared.task.Mode.{Mode}
 use Rattle.numbers.specs.declared.task.Mode.the-variants.{Trunc}
-use Rattle.numbers.proofs.Laws.Accuracy.{accuracy-scaled, between-same, between-less, between-more}
+use Rattle.numbers.proofs.Laws.Accuracy.{accuracy-scaled, whole-exact, whole-less, whole-more}
 use Rattle.numbers.proofs.Laws.Cell.{cell-ratio, round-cell, claim-cell}
 use Rattle.numbers.proofs.Laws.Misses.{fraction-left}
 use Rattle.numbers.proofs.Laws.Powers.{word-power, power-sum}
@@ -38,14 +38,14 @@ word-above n h = sym (power-sum (128 - n) (64 - n) 64 (omega arith))
 
 -- q units and a rest r, made q or q + 1 units: where that lies against F
 unit-accuracy : (negative up inexact : Bool) (F U q r : ℕ) → q * U + r ≡ F → r < U → inexact ≡ ltb 0 r → (up ≡ true → 0 < r)
-    → accuracyBy negative up inexact ≡ between negative ((q + cond up 1 0) * U) F
+    → accuracyBy negative up inexact ≡ wholeAccuracy negative ((q + cond up 1 0) * U) F
 unfolding accuracyBy
 unit-accuracy negative true false F U q r parts small some fraction = absurd (let l = ltb-false 0 r (sym some) in omega (arith, fraction refl))
-unit-accuracy negative false false F U q r parts small some fraction = sym (between-same negative ((q + 0) * U) F (let l = ltb-false 0 r (sym some) in omega arith))
-unit-accuracy false true true F U q r parts small some fraction = sym (between-more false ((q + 1) * U) F (omega arith))
-unit-accuracy true true true F U q r parts small some fraction = sym (between-more true ((q + 1) * U) F (omega arith))
-unit-accuracy false false true F U q r parts small some fraction = sym (between-less false ((q + 0) * U) F (omega (arith, ltb-true 0 r (sym some))))
-unit-accuracy true false true F U q r parts small some fraction = sym (between-less true ((q + 0) * U) F (omega (arith, ltb-true 0 r (sym some))))
+unit-accuracy negative false false F U q r parts small some fraction = sym (whole-exact negative ((q + 0) * U) F (let l = ltb-false 0 r (sym some) in omega arith))
+unit-accuracy false true true F U q r parts small some fraction = sym (whole-more false ((q + 1) * U) F (omega arith))
+unit-accuracy true true true F U q r parts small some fraction = sym (whole-more true ((q + 1) * U) F (omega arith))
+unit-accuracy false false true F U q r parts small some fraction = sym (whole-less false ((q + 0) * U) F (omega (arith, ltb-true 0 r (sym some))))
+unit-accuracy true false true F U q r parts small some fraction = sym (whole-less true ((q + 0) * U) F (omega (arith, ltb-true 0 r (sym some))))
 
 module _ (F n high low : ℕ) (rest : Bool) (n1 : n ≤ 64) (word : low < 2 ^ 64)
     (shifted : wide high low ≡ F / 2 ^ (64 - n)) (dropped : rest ≡ ltb 0 (F % 2 ^ (64 - n))) where
@@ -81,7 +81,7 @@ module _ (F n high low : ℕ) (rest : Bool) (n1 : n ≤ 64) (word : low < 2 ^ 64
 
   -- where the result lies, by the tests that made it
   pub top-accuracy : (mode : Mode) (negative up inexact : Bool) → up ≡ goesUp mode negative high (2 * low + bitOf rest) (2 ^ 65) → inexact ≡ ltb 0 (2 * low + bitOf rest)
-      → accuracyBy negative up inexact ≡ between negative (wholeOf mode negative F (2 ^ (128 - n)) * 2 ^ (128 - n)) F
+      → accuracyBy negative up inexact ≡ wholeAccuracy negative (wholeOf mode negative F (2 ^ (128 - n)) * 2 ^ (128 - n)) F
   top-accuracy mode negative up inexact decided some =
       rw (top-whole mode negative, ← decided)
       (unit-accuracy negative up inexact F (2 ^ (128 - n)) high (F % 2 ^ (128 - n))
@@ -184,7 +184,7 @@ module _ (negative : Bool) (F x z o n : ℕ) (n0 : 1 ≤ n) (n1 : n ≤ 64) (low
 
   -- where the rounding lies against the value
   pub top-lies : (mode : Mode) → accuracyOf (value (round mode n (scaled negative F x o))) (scaled negative F x o)
-      ≡ between negative (wholeOf mode negative (F * 2 ^ z) (2 ^ (128 - n)) * 2 ^ (128 - n)) (F * 2 ^ z)
+      ≡ wholeAccuracy negative (wholeOf mode negative (F * 2 ^ z) (2 ^ (128 - n)) * 2 ^ (128 - n)) (F * 2 ^ z)
   top-lies mode = accuracy-scaled (round-scaled mode n shifted (128 - n) n0 n1 (rw (top n n0 n1) low) (rw (top n n0 n1) high)) shifted
     where
       shifted : IsScaled (scaled negative F x o) negative (F * 2 ^ z) x (o + z)

@@ -23,9 +23,8 @@ use Rattle.numbers.specs.declared.task.Rounding.{Rounding}
 use Rattle.numbers.specs.declared.task.Task.{Task}
 use Rattle.numbers.specs.declared.task.Task.the-variants.{Round, Exact}
 use Rattle.numbers.proofs.Laws.Signs.{abs-signed}
-use Rattle.numbers.proofs.Laws.Accuracy.{accuracy-exact}
 use Rattle.numbers.proofs.Laws.Fits.{given-round}
-use Rattle.numbers.proofs.Laws.Marked.{told-marked, claim-kept, zero-mark}
+use Rattle.numbers.proofs.Laws.Marked.{told-marked, claim-exact, zero-mark}
 use Rattle.numbers.proofs.Laws.Scaled.{scaled-fraction}
 use Rattle.numbers.proofs.Laws.Top.{round-top, claim-top, top-lies}
 use Rattle.numbers.proofs.rounding.rounded.Statement.{statement}
@@ -72,7 +71,7 @@ module _ (task : Task) (n0 : 1 ≤ precisionOf task) (n1 : precisionOf task ≤ 
         let v = scaled negative F x raise in
         rw (e, shifted)
         (ap (told accuracy.Exact) (sym (claim-top negative F x z raise (r .precision) (p .0) (p .1) low high ∙ rw (round-top negative F x z raise (r .precision) (p .0) (p .1) low high Trunc)))
-        ∙ told-marked accuracy.Exact v (claimed (r .precision) v) (λ y h. sym (accuracy-exact _ v (claim-kept (r .precision) v y (scaled-fraction negative F x raise) (p .0) (p .1) h .1))))
+        ∙ told-marked accuracy.Exact v (claimed (r .precision) v) (λ y h. sym (claim-exact (r .precision) v y (scaled-fraction negative F x raise) (p .0) (p .1) h .1)))
 
 round-top-requires : tie.Need-round-top-requires
 round-top-requires c κs =

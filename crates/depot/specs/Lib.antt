@@ -2,7 +2,8 @@
 -- asking for a rate answers (Rate), the depot's state, what loading a block and asking for figures answer (Depot), the book that is kept from the offered
 -- blocks, the vans taken and their mean (Book), a list of calls and its replies (Calls), and what demand 3 says of every such list (Demand). Blocks and
 -- records are those of the crate `blocks`.
--- Sequence has the terms that the laws of written blocks are stated in, Room those of private contracts; no promise of a public function cites them.
+-- Sequence has the block of some records, which the crate `writing` cites, Room the terms of private contracts, which no promise of a public function
+-- cites.
 -- Definitions only; the laws stand in proofs.
 pub mod Figures
 pub mod Rate

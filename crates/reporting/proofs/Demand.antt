@@ -13,7 +13,7 @@ use Rattle.numbers.specs.Fraction.{value, quotient}
 use Rattle.numbers.specs.declared.number.Number.{Number}
 use Rattle.numbers.specs.declared.task.Mode.{Mode}
 use Rattle.numbers.specs.declared.task.Mode.the-variants.{Up, Down}
-use Rattle.blocks.proofs.Laws.Lists.{All}
+use Rattle.blocks.specs.Lists.{All}
 use Rattle.depot.specs.Figures.{whole, meanOf, given, refused, figuresBy}
 use Rattle.depot.specs.Depot.{isNegativeNumber, figuresOf}
 use Rattle.depot.specs.Book.{Book, vansOf, bookRow, addedBy, offered, offeredAll, IsTaken, IsSequence, movedCount, totalOf, vansFigures}

@@ -9,7 +9,8 @@ use lib.ListN.{length, take, drop, length-take, length-drop, length-append, take
 use lib.Seq.{length-take-le, take-all, take-append-le, drop-append-le, take-take, drop-drop}
 use Rattle.little_endian.specs.Bytes.{IsBytes}
 use Rattle.little_endian.proofs.Laws.Bytes.{bytes-take, bytes-drop}
-use Rattle.blocks.proofs.Laws.Lists.{All, take-least, drop-least, take-drop}
+use Rattle.blocks.specs.Lists.{All}
+use Rattle.blocks.proofs.Laws.Lists.{take-least, drop-least, take-drop}
 use Rattle.reporting.specs.Report.{piecesBy, piecesOf}
 use Rattle.reporting.specs.Demand.{AreCut, at-end, full, short}
 

@@ -5,7 +5,7 @@ use numbers::number::Number;
 use numbers::number::is_fit;
 
 // The most vans of a depot, and the most blocks.
-const MOST_VANS: u64 = 4_096;
+pub const MOST_VANS: u64 = 4_096;
 
 const MOST_BLOCKS: u32 = 205;
 

@@ -4,13 +4,13 @@
  * three times in nanoseconds with tabs before them. The results of the library and of MPFR, and where
  * they lie against the exact ones, must be the same.
  */
+#include "bench.h"
 #include "navehuro.h"
 
 #include <math.h>
 #include <mpfr.h>
 #include <stdio.h>
 #include <string.h>
-#include <time.h>
 
 enum {
     PAIRS = 1024,
@@ -30,9 +30,6 @@ static int8_t accuracy[PAIRS];
 static int mpfr_accuracy[PAIRS];
 static __float128 first_quad[PAIRS], second_quad[PAIRS], quad_result[PAIRS];
 static mpfr_t first_mpfr[PAIRS], second_mpfr[PAIRS], mpfr_result[PAIRS];
-
-/* The compiler must have written the place, and know nothing more of what is in memory. */
-#define USED(place) __asm__ volatile("" : : "r"(place) : "memory")
 
 static void library(entry *call, uint32_t mode) {
     for (int i = 0; i < PAIRS; i++) {
@@ -147,11 +144,9 @@ static int is_same(void) {
 
 /* CPU time of a call in nanoseconds. */
 static double time_of(void (*pass)(void)) {
-    struct timespec start, end;
-    clock_gettime(CLOCK_PROCESS_CPUTIME_ID, &start);
+    double start = cpu_time();
     for (int i = 0; i < PASSES; i++) pass();
-    clock_gettime(CLOCK_PROCESS_CPUTIME_ID, &end);
-    return ((end.tv_sec - start.tv_sec) * 1e9 + (end.tv_nsec - start.tv_nsec)) / PASSES / PAIRS;
+    return (cpu_time() - start) / PASSES / PAIRS;
 }
 
 int main(void) {

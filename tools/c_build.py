@@ -1,4 +1,4 @@
-"""Builds the C programs of c/, over the archive of the crate `export` and over MPFR."""
+"""Builds the C programs of c/, over the archives for C and over MPFR."""
 
 from __future__ import annotations
 
@@ -12,6 +12,7 @@ SOURCES = ROOT / "c"
 COMPILER = "gcc"
 # Where rt writes what is measured and compared.
 ARCHIVE = "target/staticlib/libexport.a"
+WRITER_ARCHIVE = "target/staticlib/libexport_blocks.a"
 REPORT = "target/bin/report"
 # Exit status where something is missing, does not build or fails.
 FAILED = 2
@@ -70,6 +71,11 @@ def built(path: str | None, place: str, *words: str) -> Path:
 def archive(path: str | None) -> Path:
     """The archive at the path, or that of the repository, built now."""
     return built(path, ARCHIVE, "staticlib", "export")
+
+
+def writer_archive(path: str | None) -> Path:
+    """The archive of the writer at the path, or that of the repository, built now."""
+    return built(path, WRITER_ARCHIVE, "staticlib", "export_blocks")
 
 
 def compiled(folder: str, sources: list[str], flags: list[str], libraries: list[str],

@@ -1,0 +1,28 @@
+// The writer of blocks for programs in other languages.
+ghost use mathlib.Core.Path.{_≡_};
+ghost use Rattle.writing.specs.Written.{writingRow, writingOf};
+ghost use Rattle.export_blocks.specs.Calls.{rowOf, call};
+use writing::writer;
+use writing::writer::Writing;
+
+// Answers 0 and has written the blocks of the vans, five numbers each, to the front of the output; or
+// answers the row that refuses, 18, 19, 16 or 20, and has left the output as it was.
+#[no_mangle]
+pub extern "C" fn navehuro_write_blocks(fields: &[u32], output: &mut [u8]) -> u32
+    ensures { λ r. ⌜ call r (now (output .exit)) ≡ writingOf (now (fields .entry)) (now (output .entry)) ⌝ }
+{
+    number_of(writer::write_blocks(fields, output))
+}
+
+// The number that C gets of an answer.
+fn number_of(answer: Writing) -> u32
+    ensures { λ r. ⌜ rowOf r ≡ writingRow answer ⌝ }
+{
+    match answer {
+        Writing::Written => 0,
+        Writing::PartialVan => 18,
+        Writing::TooManyVans => 19,
+        Writing::WrongRecord => 16,
+        Writing::OutputTooShort => 20,
+    }
+}

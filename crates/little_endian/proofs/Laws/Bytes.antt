@@ -114,6 +114,12 @@ zero-bytes zero i = lit< tt
 zero-bytes (suc n) zero = lit< tt
 zero-bytes (suc n) (suc i) = zero-bytes n i
 
+-- they hold zero
+pub bytes-zero : (n : ℕ) → bytesOf n 0 ≡ replicate n 0
+unfolding bytesOf
+bytes-zero zero = refl
+bytes-zero (suc n) = rw (bytes-zero n)
+
 -- what the n lowest bytes do not hold has no effect on them
 bytes-low : (n v w : ℕ) → bytesOf n (v * 256 ^ n + w) ≡ bytesOf n w
 unfolding bytesOf

@@ -8,7 +8,7 @@ from typing import Callable, NamedTuple, Optional, Sequence
 
 import model
 from make_blocks import random_record
-from model import FRESH, Depot, Number, Record, Refused
+from model import FRESH, Depot, Figures, Number, Record, Refused
 from operands import marked_text, number_text, refusal_text
 from requests import Rounded, make_block, rate_with_side
 
@@ -29,6 +29,13 @@ def field_text(value: bool | int | Number) -> str:
     if isinstance(value, bool):
         return "closed" if value else "open"
     return str(value) if isinstance(value, int) else number_text(value)
+
+
+def figures_text(answer: Figures | Refused) -> str:
+    """Figures, or their refusal, as a line has them."""
+    if isinstance(answer, Refused):
+        return refusal_text(answer)
+    return f"low {number_text(answer.low)} high {number_text(answer.high)}"
 
 
 PARTS = (Part("blocks", ("blocks", "closed", "last_van")),
@@ -106,12 +113,9 @@ class Calls:
     def ask(self) -> Optional[int]:
         """Asks for figures; the row if they are refused."""
         answer = model.figures(self.depot)
-        if isinstance(answer, Refused):
-            text, row = refusal_text(answer), answer.number
-        else:
-            text, row = f"low {number_text(answer.low)} high {number_text(answer.high)}", None
+        row = answer.number if isinstance(answer, Refused) else None
         self.asked.append(row)
-        self._answered(Line("ask"), text)
+        self._answered(Line("ask"), figures_text(answer))
         return row
 
     def rate(self, *arguments: int) -> Rounded | Refused:

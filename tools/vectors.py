@@ -1,10 +1,11 @@
-"""Makes the input of the programs `known` and `known_depot`, and what they must print.
+"""Makes the input of the programs `known`, `known_depot` and `known_writing`, and what they must
+print.
 
     python3 tools/vectors.py FOLDER
 
 FOLDER holds the reference model and its maker of blocks, model.py, requests.py and make_blocks.py.
 A program's input goes to the file stdin of its crate, the model's answers to the file stdout.  The
-cases of `known` are lines of 80 bytes; so are the calls of `known_depot`, each with the bytes that
+cases of `known` are lines of 80 bytes; so are the calls of the other two, each with the bytes that
 it offers behind it.  The same files come out of every run.
 """
 
@@ -13,6 +14,8 @@ from __future__ import annotations
 import random
 import sys
 from pathlib import Path
+from types import ModuleType
+from typing import Sequence
 
 if len(sys.argv) != 2:
     sys.exit("usage: python3 tools/vectors.py FOLDER, which holds model.py, requests.py and "
@@ -31,10 +34,13 @@ import mark_coverage
 import rate_cases
 import rounding_cases
 import state_cases
+import writing_cases
+import writing_coverage
 
 WIDTH = 80
 FAMILIES = (arithmetic_cases, rounding_cases, code_cases, division_cases)
 DEPOT_FAMILIES = (depot_cases, damage_cases, state_cases, rate_cases)
+WRITING_FAMILIES = (writing_cases,)
 
 
 def padded(text: str) -> bytes:
@@ -66,19 +72,20 @@ def known() -> None:
     write("known", given, wanted)
 
 
-def known_depot() -> None:
-    """Makes the calls of `known_depot` and prints how many of each kind there are."""
+def known_calls(crate: str, families: Sequence[ModuleType], coverage: ModuleType) -> None:
+    """Makes the calls of a program and prints how many of each kind there are."""
     sequences = []
-    for kind in (kind for family in DEPOT_FAMILIES for kind in family.KINDS):
+    for kind in (kind for family in families for kind in family.KINDS):
         made = list(kind(random.Random(kind.__name__)))
         sequences += made
         print(f"{sum(len(calls.given) for calls in made):5} {kind.__module__} {kind.__name__}")
     lines = [line for calls in sequences for line in calls.given]
-    print(f"{len(lines):5} in all: {depot_coverage.summary(sequences)}")
-    write("known_depot", [padded(line.text) + line.content for line in lines],
+    print(f"{len(lines):5} in all: {coverage.summary(sequences)}")
+    write(crate, [padded(line.text) + line.content for line in lines],
           [text for calls in sequences for text in calls.wanted])
 
 
 if __name__ == "__main__":
     known()
-    known_depot()
+    known_calls("known_depot", DEPOT_FAMILIES, depot_coverage)
+    known_calls("known_writing", WRITING_FAMILIES, writing_coverage)

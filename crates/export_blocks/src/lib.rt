@@ -1,28 +1,28 @@
 // The writer of blocks for programs in other languages.
 ghost use mathlib.Core.Path.{_≡_};
-ghost use Rattle.writing.specs.Written.{writingRow, writingOf};
+ghost use Rattle.writing.specs.Written.{blockWritingRow, blockWritingOf};
 ghost use Rattle.export_blocks.specs.Calls.{rowOf, call};
 use writing::writer;
-use writing::writer::Writing;
+use writing::writer::BlockWriting;
 
 // Answers 0 and has written the blocks of the vans, five numbers each, to the front of the output; or
 // answers the row that refuses, 18, 19, 16 or 20, and has left the output as it was.
 #[no_mangle]
 pub extern "C" fn navehuro_write_blocks(fields: &[u32], output: &mut [u8]) -> u32
-    ensures { λ r. ⌜ call r (now (output .exit)) ≡ writingOf (now (fields .entry)) (now (output .entry)) ⌝ }
+    ensures { λ r. ⌜ call r (now (output .exit)) ≡ blockWritingOf (now (fields .entry)) (now (output .entry)) ⌝ }
 {
     number_of(writer::write_blocks(fields, output))
 }
 
 // The number that C gets of an answer.
-fn number_of(answer: Writing) -> u32
-    ensures { λ r. ⌜ rowOf r ≡ writingRow answer ⌝ }
+fn number_of(answer: BlockWriting) -> u32
+    ensures { λ r. ⌜ rowOf r ≡ blockWritingRow answer ⌝ }
 {
     match answer {
-        Writing::Written => 0,
-        Writing::PartialVan => 18,
-        Writing::TooManyVans => 19,
-        Writing::WrongRecord => 16,
-        Writing::OutputTooShort => 20,
+        BlockWriting::Written => 0,
+        BlockWriting::PartialVan => 18,
+        BlockWriting::TooManyVans => 19,
+        BlockWriting::WrongRecord => 16,
+        BlockWriting::OutputTooShort => 20,
     }
 }

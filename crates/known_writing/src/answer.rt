@@ -6,7 +6,7 @@ use depot::load::Loading;
 use lines::number;
 use lines::out;
 use numbers::number::Number;
-use writing::writer::Writing;
+use writing::writer::BlockWriting;
 
 // Prints that a line is not a call.
 pub fn print_no_call() {
@@ -21,13 +21,13 @@ pub fn print_list(count: usize) {
 }
 
 // Prints what writing answers.
-pub fn print_writing(answer: Writing) {
+pub fn print_writing(answer: BlockWriting) {
     match answer {
-        Writing::Written => out::bytes(b"written\n"),
-        Writing::PartialVan => print_refused(18),
-        Writing::TooManyVans => print_refused(19),
-        Writing::WrongRecord => print_refused(16),
-        Writing::OutputTooShort => print_refused(20),
+        BlockWriting::Written => out::bytes(b"written\n"),
+        BlockWriting::PartialVan => print_refused(18),
+        BlockWriting::TooManyVans => print_refused(19),
+        BlockWriting::WrongRecord => print_refused(16),
+        BlockWriting::OutputTooShort => print_refused(20),
     }
 }
 

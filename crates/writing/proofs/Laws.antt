@@ -1,6 +1,6 @@
--- The laws of the writer: parts that are written one after the other (Over), the vans in a list of numbers (Vans), their blocks (Blocks), one block and
+-- The laws of the writer: parts that are written one after the other (Begun), the vans in a list of numbers (Vans), their blocks (Blocks), one block and
 -- the whole output (Block, Written), and the books that take the blocks (Taken).
-pub mod Over
+pub mod Begun
 pub mod Vans
 pub mod Blocks
 pub mod Block

@@ -8,24 +8,24 @@
  */
 #include "bench.h"
 #include "navehuro_blocks.h"
+#include "writer.h"
 
 #include <stdio.h>
 #include <string.h>
 
 enum {
-    MONTH_NUMBERS = NAVEHURO_MAX_VANS * NAVEHURO_VAN_NUMBERS,
+    MONTH_NUMBERS = NAVEHURO_MAX_VANS * NAVEHURO_VAN_FIELDS,
     MONTH_BYTES = NAVEHURO_BLOCKS_BYTES(NAVEHURO_MAX_VANS),
-    MORE_NUMBERS = 2 * NAVEHURO_VAN_NUMBERS, /* than a month may have */
+    MORE_NUMBERS = 2 * NAVEHURO_VAN_FIELDS, /* than a month may have */
     BYTES = MONTH_BYTES + 1,                 /* of an output: never too short, nor filled */
-    FEW_NUMBERS = 3 * NAVEHURO_BLOCK_VANS * NAVEHURO_VAN_NUMBERS,
-    LAST_VAN = MONTH_NUMBERS - NAVEHURO_VAN_NUMBERS,
+    FEW_NUMBERS = 3 * NAVEHURO_BLOCK_VANS * NAVEHURO_VAN_FIELDS,
+    LAST_VAN = MONTH_NUMBERS - NAVEHURO_VAN_FIELDS,
     ANSWERS = NAVEHURO_OUTPUT_TOO_SHORT + 1
 };
 
 enum { DIFFERENT = 1, FAILED = 2 }; /* exit statuses */
 
 typedef uint32_t entry(const uint32_t *, size_t, uint8_t *, size_t);
-entry plain_write_blocks;
 
 static uint32_t fields[MONTH_NUMBERS + MORE_NUMBERS];
 static uint8_t month[MONTH_BYTES], pattern[BYTES], output[BYTES], plain_output[BYTES];
@@ -38,7 +38,7 @@ static const struct {
 } damages[] = {
     {0, 1}, /* none: the first van is 1 */
     {0, 0},
-    {NAVEHURO_BLOCK_VANS * NAVEHURO_VAN_NUMBERS, NAVEHURO_BLOCK_VANS}, /* a van twice */
+    {NAVEHURO_BLOCK_VANS * NAVEHURO_VAN_FIELDS, NAVEHURO_BLOCK_VANS}, /* a van twice */
     {LAST_VAN, 1},
     {LAST_VAN + 1, UINT32_MAX}, /* end below start */
 };
@@ -65,7 +65,7 @@ static int is_same(size_t numbers, size_t length) {
 /* The same for lists of each length in a range, in outputs with just room, with too little and more. */
 static int are_same(size_t fewest, size_t most) {
     for (size_t numbers = fewest; numbers <= most; numbers++) {
-        size_t room = NAVEHURO_BLOCKS_BYTES(numbers / NAVEHURO_VAN_NUMBERS);
+        size_t room = NAVEHURO_BLOCKS_BYTES(numbers / NAVEHURO_VAN_FIELDS);
         if (room > 0 && !is_same(numbers, room - 1)) return 0;
         if (!is_same(numbers, room) || !is_same(numbers, BYTES)) return 0;
     }
@@ -87,7 +87,7 @@ static int is_right(void) {
 static double time_of(entry *write, size_t vans, int passes) {
     double start = cpu_time();
     for (int i = 0; i < passes; i++) {
-        write(fields, vans * NAVEHURO_VAN_NUMBERS, output, BYTES);
+        write(fields, vans * NAVEHURO_VAN_FIELDS, output, BYTES);
         USED(output);
     }
     return (cpu_time() - start) / passes;

@@ -18,7 +18,7 @@ static const uint32_t fields[] = {
     3, 0, 2000, 500, 90001  /* moved, and over */
 };
 
-enum { NUMBERS = sizeof fields / sizeof fields[0], VANS = NUMBERS / NAVEHURO_VAN_NUMBERS };
+enum { NUMBERS = sizeof fields / sizeof fields[0], VANS = NUMBERS / NAVEHURO_VAN_FIELDS };
 
 int main(void) {
     uint8_t blocks[NAVEHURO_BLOCKS_BYTES(VANS)];
@@ -27,5 +27,9 @@ int main(void) {
         fprintf(stderr, "refused %" PRIu32 "\n", answer);
         return 1;
     }
-    return fwrite(blocks, sizeof blocks, 1, stdout) != 1 || fflush(stdout) != 0;
+    if (fwrite(blocks, sizeof blocks, 1, stdout) != 1 || fflush(stdout) != 0) {
+        perror("standard output");
+        return 1;
+    }
+    return 0;
 }

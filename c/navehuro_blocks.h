@@ -2,7 +2,7 @@
  * The blocks of a depot's vans, written from a list of numbers.
  *
  * The function stands in libexport_blocks.a, which `rt staticlib export_blocks` writes to
- * target/staticlib; it is for x86-64.
+ * target/staticlib; it is for x86-64, and needs `memset` of the C library.
  *
  * The list has five numbers for each van, one van after the other:
  *
@@ -13,7 +13,8 @@
  *     speed   the fastest, in metres per hour
  *
  * The blocks are those that the report program reads, and the only ones that it takes for these vans:
- * 512 bytes each, one after the other, with 20 vans in each but the last. No vans have no block.
+ * 512 bytes each, one after the other, numbered from 0, with 20 vans in each but the last. No vans have
+ * no block. A list holds all vans of a depot: another call numbers its blocks from 0 again.
  */
 #ifndef NAVEHURO_BLOCKS_H
 #define NAVEHURO_BLOCKS_H
@@ -26,7 +27,7 @@ extern "C" {
 #endif
 
 /* The numbers of a van in the list. */
-#define NAVEHURO_VAN_NUMBERS 5
+#define NAVEHURO_VAN_FIELDS 5
 
 /* The most vans of a list; there may be none. */
 #define NAVEHURO_MAX_VANS 4096
@@ -36,11 +37,11 @@ extern "C" {
 #define NAVEHURO_BLOCK_BYTES 512
 
 /*
- * The bytes of the blocks of so many vans: 512 for each 20 vans begun, 104,960 for the most vans. An
- * output must have as many, and may have more.
+ * The bytes of the blocks of so many vans, at most NAVEHURO_MAX_VANS: 512 for each 20 vans begun,
+ * 104,960 for the most. An output must have as many, and may have more.
  */
 #define NAVEHURO_BLOCKS_BYTES(vans) \
-    (((vans) + NAVEHURO_BLOCK_VANS - 1) / NAVEHURO_BLOCK_VANS * NAVEHURO_BLOCK_BYTES)
+    (((size_t)(vans) + NAVEHURO_BLOCK_VANS - 1) / NAVEHURO_BLOCK_VANS * NAVEHURO_BLOCK_BYTES)
 
 /*
  * What a call answers. The refusals are looked for in the order in which they stand here, which is not

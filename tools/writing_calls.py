@@ -11,7 +11,7 @@ from model import BLOCK_BYTES, FRESH, FULL_COUNT, Depot, Record
 from operands import refusal_text
 from requests import write_blocks
 
-VAN_NUMBERS = 5
+VAN_FIELDS = 5
 # The most numbers of a list and the most bytes of an output that the program has room for.
 MOST_NUMBERS, MOST_BYTES = 20_500, 106_496
 # The most bytes that are printed, and how many of them to a line.
@@ -20,18 +20,18 @@ MOST_PRINTED, LINE_BYTES = 1_100, 32
 
 def fields_of(records: Sequence[Record]) -> list[int]:
     """The numbers of these vans."""
-    return [field for record in records for field in record[:VAN_NUMBERS]]
+    return [field for record in records for field in record[:VAN_FIELDS]]
 
 
 def vans_in(fields: Sequence[int]) -> list[Record]:
     """The whole vans in a list of numbers."""
-    vans = len(fields) // VAN_NUMBERS
-    return [Record(*fields[VAN_NUMBERS * i:VAN_NUMBERS * (i + 1)]) for i in range(vans)]
+    vans = len(fields) // VAN_FIELDS
+    return [Record(*fields[VAN_FIELDS * i:VAN_FIELDS * (i + 1)]) for i in range(vans)]
 
 
 def room_for(numbers: int) -> int:
     """How many bytes the blocks of the whole vans in so many numbers have."""
-    return BLOCK_BYTES * -(-(numbers // VAN_NUMBERS) // FULL_COUNT)
+    return BLOCK_BYTES * -(-(numbers // VAN_FIELDS) // FULL_COUNT)
 
 
 def pattern(length: int) -> bytes:

@@ -11,11 +11,11 @@ from depot_blocks import moved_record, parked_record
 from make_blocks import STYLES, random_record, random_records
 from model import BLOCK_BYTES, FULL_COUNT, MOST_RECORDS, Record, figures
 from operands import LARGEST_WORD, number
-from writing_calls import MOST_BYTES, MOST_NUMBERS, VAN_NUMBERS, Calls, fields_of, room_for
+from writing_calls import MOST_BYTES, MOST_NUMBERS, VAN_FIELDS, Calls, fields_of, room_for
 
 # An output this much longer than the blocks has a whole piece and a part of one behind them.
 LONGER = BLOCK_BYTES + 7
-MOST_LAWFUL = VAN_NUMBERS * MOST_RECORDS
+MOST_LAWFUL = VAN_FIELDS * MOST_RECORDS
 
 
 def written_again(calls: Calls, numbers: int, length: int) -> None:
@@ -75,7 +75,7 @@ def longest_list(chance: random.Random) -> Iterator[Calls]:
     for more in (1, 4, 5, 6, 9, 10, 11, 20):
         room = room_for(MOST_LAWFUL + more)
         for length in (40, room - 1, room, MOST_BYTES):
-            assert calls.write(MOST_LAWFUL + more, length) == (18 if more % VAN_NUMBERS else 19)
+            assert calls.write(MOST_LAWFUL + more, length) == (18 if more % VAN_FIELDS else 19)
     yield calls
 
 
@@ -113,18 +113,18 @@ def wrong_records(chance: random.Random) -> Iterator[Calls]:
     """One van unlawful: the first, the last of a block, the first of the next one, the last of all.
     The vans before it are lawful."""
     records = random_records(chance, 30, "ordinary")
-    numbers, room = VAN_NUMBERS * len(records), room_for(VAN_NUMBERS * len(records))
+    numbers, room = VAN_FIELDS * len(records), room_for(VAN_FIELDS * len(records))
     for index in (0, FULL_COUNT - 1, FULL_COUNT, len(records) - 1):
         for faulty in faults(records, index):
             calls = Calls(fields_of(faulty))
             for length in (40, room - 1, room + LONGER):
                 assert calls.write(numbers, length) == 16
-            written_again(calls, VAN_NUMBERS * index, room + LONGER)
+            written_again(calls, VAN_FIELDS * index, room + LONGER)
             yield calls
     for faulty in faults(records[:1], 0):
         calls = Calls(fields_of(faulty))
         for length in (0, BLOCK_BYTES):
-            assert calls.write(VAN_NUMBERS, length) == 16
+            assert calls.write(VAN_FIELDS, length) == 16
         yield calls
 
 

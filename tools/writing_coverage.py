@@ -8,7 +8,7 @@ from itertools import chain, combinations
 import model
 from model import BLOCK_BYTES, FULL_COUNT, LAST_BLOCK, MOST_RECORDS, Record
 from operands import LARGEST_WORD
-from writing_calls import VAN_NUMBERS, Calls, Load, Write, fields_of, pattern, room_for, vans_in
+from writing_calls import VAN_FIELDS, Calls, Load, Write, fields_of, pattern, room_for, vans_in
 
 # The rows in document 02's order, by which the first that applies is answered.
 ROWS = (18, 19, 16, 20)
@@ -20,7 +20,7 @@ def rows_of(write: Write) -> list[int]:
     """All rows that apply to a list and an output; a part of a van behind the whole ones counts for
     row 18 alone."""
     numbers, vans = len(write.fields), vans_in(write.fields)
-    applying = (numbers % VAN_NUMBERS != 0, len(vans) > MOST_RECORDS,
+    applying = (numbers % VAN_FIELDS != 0, len(vans) > MOST_RECORDS,
                 not model.records_are_good(vans, 0), len(write.output) < room_for(numbers))
     return [row for row, applies in zip(ROWS, applying) if applies]
 
@@ -43,7 +43,7 @@ def check_writes(writes: list[Write]) -> Counter:
 def check_records(records: list[Record]) -> None:
     """The lowest and the highest value of each field, and vans that moved or not, over or not,
     among the records written."""
-    for values in zip(*(record[1:VAN_NUMBERS] for record in records)):
+    for values in zip(*(record[1:VAN_FIELDS] for record in records)):
         assert {0, LARGEST_WORD} <= set(values)
     assert {1, LARGEST_WORD} <= {record.van for record in records}
     assert {(True, True), (True, False), (False, True), (False, False)} == {

@@ -5,10 +5,10 @@ use Prim.Native.Nat.{ℕ, zero, suc}
 use Rattle.writing.specs.Written.{Left}
 
 -- the row in the number that C gets: 0 is none, any other number the row of that number
-unfoldable pub rowOf : ℕ → Option ℕ
-rowOf zero = none
-rowOf (suc n) = some (suc n)
+unfoldable pub rowOfNumber : ℕ → Option ℕ
+rowOfNumber zero = none
+rowOfNumber (suc n) = some (suc n)
 
 -- an answer with the output at exit
 unfoldable pub call : ℕ → List ℕ → Left
-call answer output = record { refusal = rowOf answer; output = output }
+call answer output = record { refusal = rowOfNumber answer; output = output }

@@ -1,7 +1,7 @@
 // The writer of blocks for programs in other languages.
 ghost use mathlib.Core.Path.{_≡_};
 ghost use Rattle.writing.specs.Written.{blockWritingRow, blockWritingOf};
-ghost use Rattle.export_blocks.specs.Calls.{rowOf, call};
+ghost use Rattle.export_blocks.specs.Calls.{rowOfNumber, call};
 use writing::writer;
 use writing::writer::BlockWriting;
 
@@ -16,7 +16,7 @@ pub extern "C" fn navehuro_write_blocks(fields: &[u32], output: &mut [u8]) -> u3
 
 // The number that C gets of an answer.
 fn number_of(answer: BlockWriting) -> u32
-    ensures { λ r. ⌜ rowOf r ≡ blockWritingRow answer ⌝ }
+    ensures { λ r. ⌜ rowOfNumber r ≡ blockWritingRow answer ⌝ }
 {
     match answer {
         BlockWriting::Written => 0,

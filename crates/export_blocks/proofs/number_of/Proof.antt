@@ -1,12 +1,12 @@
 -- `export_blocks::number_of` meets its contract, by the answer's case.
 use borrow.Author.Needs.{needs}
 use Rattle.writing.specs.Written.{blockWritingRow}
-use Rattle.export_blocks.specs.Calls.{rowOf}
+use Rattle.export_blocks.specs.Calls.{rowOfNumber}
 use Rattle.export_blocks.proofs.number_of.Statement.{statement}
 use Rattle.export_blocks.proofs.number_of.Tie as tie
 
 pub number-of-spec : {M : Type 1} → statement M
-unfolding rowOf blockWritingRow
+unfolding rowOfNumber blockWritingRow
 number-of-spec =
     tie.close
     (tie.spec

@@ -15,7 +15,7 @@ pub struct Sizes {
 }
 
 // The sizes that the call leaves.
-pub fn run(call: Call, list: &mut [u32], output: &mut [u8], sizes: Sizes) -> Sizes
+pub(crate) fn run(call: Call, list: &mut [u32], output: &mut [u8], sizes: Sizes) -> Sizes
     requires { ⌜ (sizes .numbers ≤ length (now list)) × (sizes .bytes ≤ length (now output)) ⌝ }
     ensures { λ r. ⌜ (r .numbers ≤ length (now (list .entry))) × (r .bytes ≤ length (now (output .entry))) ⌝ }
 {

@@ -13,11 +13,11 @@ use Rattle.numbers.specs.Fraction.{Fraction, signed, value, isEqual, sum, divid
 use Rattle.numbers.specs.Rounding.{settled, exponentOf, scaledNumerator, scaledDenominator, goesUp, wholeOf, placed, roundedAt, round}
 use Rattle.numbers.specs.declared.number.Number.{Number}
 use Rattle.numbers.specs.declared.number.Number.the-variants.{Zero, Finite}
-use Rattle.blocks.specs.Block.{field, blockNumberOf, countOf, reservedOf, recordAt, recordsFrom, recordsOf, tailOf, areZero, sumOfWords, checkOf, hasCheck, mostRecords, isCount, closes, isLaidOut, isLargerThanAll, isSound, isLawful, areLawful, rowOf}
+use Rattle.blocks.specs.Block.{field, blockNumberOf, countOf, editionOf, recordAt, recordsFrom, recordsOf, tailOf, areZero, sumOfWords, checkOf, hasCheck, mostRecords, isCount, closes, isEdition, isLaidOut, mayFollow, remembered, isLargerThanAll, sixthOf, isSound, isLawful, areLawful, rowOf}
 use Rattle.blocks.specs.declared.record.Record.{Record}
 use Rattle.depot.specs.Figures.{isMoved, rate, moreIf, withRate, whole, meanOf, Figures, given, refused, figuresBy}
 use Rattle.depot.specs.Depot.{fresh, withRecord, withRecords, withBlock, isNegativeNumber, isFitSum, areBlocksFit, isFitDepot, Loaded, loadRow, leftBy, loadOf, figuresOf}
-use Rattle.depot.specs.Book.{vansOf, isClosed, bookRow, addedBy, offered, countBy, ratesOf, movedCount, exactSum, exactMean, totalFrom, totalOf, vansFigures}
+use Rattle.depot.specs.Book.{vansOf, isClosed, bookEdition, bookRow, addedBy, offered, countBy, ratesOf, movedCount, exactSum, exactMean, totalFrom, totalOf, vansFigures}
 use Rattle.depot.specs.Calls.{Call, load, ask, depotAfter, bookAfter, Reply, toLoad, toAsk, repliesOf, repliesBy}
 use Rattle.depot.specs.Sequence.{recordBytes, recordsBytes, bodyOf, blockOf}
 use Rattle.depot.specs.declared.state.Depot.{Depot}
@@ -40,11 +40,11 @@ abbrev pub lawful : ℕ → ℕ → ℕ → ℕ → ℕ → Record
 lawful van start end fuel speed = record { van = van; start = start; end = end; fuel = fuel; speed = speed; sixth = 0 }
 
 -- document 01's sample, and the block of its three vans
-abbrev sample : List Record
+abbrev pub sample : List Record
 sample = lawful 1 0 1000 500 90000 ∷ lawful 2 7 7 40 0 ∷ lawful 3 0 2000 500 90001 ∷ []
 
 abbrev sampleBlock : List ℕ
-sampleBlock = blockOf 0 sample
+sampleBlock = blockOf 0 0 sample
 
 -- n vans after the van v, each with 500 ml over a kilometre
 abbrev pub alike : ℕ → ℕ → List Record
@@ -52,20 +52,20 @@ alike v zero = []
 alike v (suc n) = lawful (suc v) 5 1005 500 90001 ∷ alike (suc v) n
 
 abbrev pub fullBlock : List ℕ
-fullBlock = blockOf 0 (alike 0 20)
+fullBlock = blockOf 0 0 (alike 0 20)
 
 -- the state after a block, and the row that a block is answered
-abbrev with : Depot → List ℕ → Depot
+abbrev pub with : Depot → List ℕ → Depot
 with s block = loadOf s block .depot
 
-abbrev answer : Depot → List ℕ → Result
+abbrev pub answer : Depot → List ℕ → Result
 answer s block = row (loadOf s block .refusal)
 
 -- 0.375 and 0.75
-abbrev threeEighths : Number
+abbrev pub threeEighths : Number
 threeEighths = Finite false (minus 0 2) 0xC000000000000000
 
-abbrev threeQuarters : Number
+abbrev pub threeQuarters : Number
 threeQuarters = Finite false (minus 0 1) 0xC000000000000000
 
 abbrev ratio : ℕ → ℕ → Fraction
@@ -87,7 +87,7 @@ sampleBytes =
 -- a state with these blocks, closed or not, vans moved, parked and over, and sums
 abbrev state : ℕ → Bool → ℕ → ℕ → ℕ → Number → Number → Depot
 state blocks closed moved parked over low high =
-    record { blocks = blocks; closed = closed; latest = 0; moved = moved; parked = parked; over = over; low = low; high = high }
+    record { blocks = blocks; closed = closed; latest = 0; edition = 0; moved = moved; parked = parked; over = over; low = low; high = high }
 
 -- 2^e, and its opposite
 abbrev power : ℤ → Number
@@ -101,7 +101,7 @@ fits s = test (isFitDepot s)
 
 -- the calls: asked, loaded twice, asked
 abbrev calls : List Call
-calls = ask ∷ load sampleBlock (block-bytes 0 sample) ∷ load sampleBlock (block-bytes 0 sample) ∷ ask ∷ []
+calls = ask ∷ load sampleBlock (block-bytes 0 0 sample) ∷ load sampleBlock (block-bytes 0 0 sample) ∷ ask ∷ []
 
 -- ---- the list
 
@@ -112,7 +112,7 @@ values =
     -- loaded and asked: moved 2, parked 1, over 1, low and high 0.375
     ∷ (
       left (loadOf fresh sampleBytes),
-      left (record { refusal = none; depot = record { blocks = 1; closed = true; latest = 3; moved = 2; parked = 1; over = 1; low = threeQuarters; high = threeQuarters } }),
+      left (record { refusal = none; depot = record { blocks = 1; closed = true; latest = 3; edition = 0; moved = 2; parked = 1; over = 1; low = threeQuarters; high = threeQuarters } }),
     )
     ∷ (figures (figuresOf (with fresh sampleBytes)), figures (given threeEighths threeEighths))
     -- its exact mean is 3/8; a parked van counted as rate zero would make it 1/4
@@ -123,50 +123,50 @@ values =
     ∷ (replies (repliesBy [] calls), replies (toAsk (refused 17) ∷ toLoad none ∷ toLoad (some 13) ∷ toAsk (given threeEighths threeEighths) ∷ []))
     -- one van with 1 ml over 3 m: low is below a third, high above it; and one with no fuel
     ∷ (
-      figures (figuresOf (with fresh (blockOf 0 (lawful 1 0 3 1 0 ∷ [])))),
+      figures (figuresOf (with fresh (blockOf 0 0 (lawful 1 0 3 1 0 ∷ [])))),
       figures (given (Finite false (minus 0 2) 0xAAAAAAAAAAAAAAAA) (Finite false (minus 0 2) 0xAAAAAAAAAAAAAAAB)),
     )
-    ∷ (figures (figuresOf (with fresh (blockOf 0 (lawful 1 0 3 0 0 ∷ [])))), figures (given Zero Zero))
+    ∷ (figures (figuresOf (with fresh (blockOf 0 0 (lawful 1 0 3 0 0 ∷ [])))), figures (given Zero Zero))
     -- a parked van alone, over: counted, and no figures
-    ∷ (count (with fresh (blockOf 0 (lawful 1 5 5 9 90001 ∷ [])) .parked), count 1)
-    ∷ (count (with fresh (blockOf 0 (lawful 1 5 5 9 90001 ∷ [])) .over), count 1)
-    ∷ (figures (figuresOf (with fresh (blockOf 0 (lawful 1 5 5 9 90001 ∷ [])))), figures (refused 17))
+    ∷ (count (with fresh (blockOf 0 0 (lawful 1 5 5 9 90001 ∷ [])) .parked), count 1)
+    ∷ (count (with fresh (blockOf 0 0 (lawful 1 5 5 9 90001 ∷ [])) .over), count 1)
+    ∷ (figures (figuresOf (with fresh (blockOf 0 0 (lawful 1 5 5 9 90001 ∷ [])))), figures (refused 17))
     -- a full block leaves the depot open, one of 19 closes it
     ∷ (test (with fresh fullBlock .closed), test false)
     ∷ (count (with fresh fullBlock .moved), count 20)
-    ∷ (test (with fresh (blockOf 0 (alike 0 19)) .closed), test true)
+    ∷ (test (with fresh (blockOf 0 0 (alike 0 19)) .closed), test true)
     -- 9: one byte too few or too many, also where the depot is closed
     ∷ (answer fresh (take 511 sampleBytes), row (some 9))
     ∷ (answer (with fresh sampleBytes) (sampleBytes ++ (0 ∷ [])), row (some 9))
     -- 13: the depot is closed, whatever the block, also with a wrong check
-    ∷ (answer (with fresh sampleBytes) (blockOf 7 []), row (some 13))
+    ∷ (answer (with fresh sampleBytes) (blockOf 0 7 []), row (some 13))
     ∷ (answer (with fresh sampleBytes) (replicate 512 0), row (some 13))
     -- 14: a changed byte; the sum in place of its complement; in a block with a wrong number too
     ∷ (answer fresh (take 80 sampleBytes ++ (1 ∷ drop 81 sampleBytes)), row (some 14))
-    ∷ (answer fresh (bodyOf 1 sample ++ bytesOf 4 (sumOfWords 127 (bodyOf 1 sample))), row (some 14))
-    -- 15: the number, also above 16 bits, the count 0, the count 21, bytes 6 and 7, the first and the last byte after the records
-    ∷ (answer fresh (blockOf 1 sample), row (some 15))
-    ∷ (answer fresh (blockOf 65536 sample), row (some 15))
-    ∷ (answer fresh (blockOf 0 []), row (some 15))
+    ∷ (answer fresh (bodyOf 0 1 sample ++ bytesOf 4 (sumOfWords 127 (bodyOf 0 1 sample))), row (some 14))
+    -- 15: the number, also above 16 bits, the count 0, the count 21, an edition above 1 by its low and by its high byte, the first and the last byte after the records
+    ∷ (answer fresh (blockOf 0 1 sample), row (some 15))
+    ∷ (answer fresh (blockOf 0 65536 sample), row (some 15))
+    ∷ (answer fresh (blockOf 0 0 []), row (some 15))
     ∷ (answer fresh (changed 4 (21 ∷ []) fullBlock), row (some 15))
-    ∷ (answer fresh (changed 6 (1 ∷ []) sampleBytes), row (some 15))
+    ∷ (answer fresh (changed 6 (2 ∷ []) sampleBytes), row (some 15))
     ∷ (answer fresh (changed 7 (1 ∷ []) sampleBytes), row (some 15))
     ∷ (answer fresh (changed 80 (1 ∷ []) sampleBytes), row (some 15))
     ∷ (answer fresh (changed 507 (1 ∷ []) sampleBytes), row (some 15))
     -- and before 16: a wrong number with van 0
-    ∷ (answer fresh (blockOf 1 (lawful 0 0 1 1 1 ∷ [])), row (some 15))
+    ∷ (answer fresh (blockOf 0 1 (lawful 0 0 1 1 1 ∷ [])), row (some 15))
     -- block 204 takes 16 records and not 17
-    ∷ (answer (state 204 false 4080 0 0 Zero Zero) (blockOf 204 (alike 4080 16)), row none)
-    ∷ (answer (state 204 false 4080 0 0 Zero Zero) (blockOf 204 (alike 4080 17)), row (some 15))
+    ∷ (answer (state 204 false 4080 0 0 Zero Zero) (blockOf 0 204 (alike 4080 16)), row none)
+    ∷ (answer (state 204 false 4080 0 0 Zero Zero) (blockOf 0 204 (alike 4080 17)), row (some 15))
     -- 16: van 0, a van twice, a van of an earlier block, a sixth field, its last byte too, an end before its start
-    ∷ (answer fresh (blockOf 0 (lawful 0 0 1 1 1 ∷ [])), row (some 16))
-    ∷ (answer fresh (blockOf 0 (lawful 5 0 1 1 1 ∷ lawful 5 0 1 1 1 ∷ [])), row (some 16))
-    ∷ (answer (with fresh fullBlock) (blockOf 1 (alike 19 1)), row (some 16))
+    ∷ (answer fresh (blockOf 0 0 (lawful 0 0 1 1 1 ∷ [])), row (some 16))
+    ∷ (answer fresh (blockOf 0 0 (lawful 5 0 1 1 1 ∷ lawful 5 0 1 1 1 ∷ [])), row (some 16))
+    ∷ (answer (with fresh fullBlock) (blockOf 0 1 (alike 19 1)), row (some 16))
     ∷ (answer fresh (changed 28 (1 ∷ []) sampleBytes), row (some 16))
     ∷ (answer fresh (changed 31 (1 ∷ []) sampleBytes), row (some 16))
-    ∷ (answer fresh (blockOf 0 (lawful 1 2 1 1 1 ∷ [])), row (some 16))
+    ∷ (answer fresh (blockOf 0 0 (lawful 1 2 1 1 1 ∷ [])), row (some 16))
     -- zero in all four middle fields is lawful
-    ∷ (answer fresh (blockOf 0 (lawful 1 0 0 0 0 ∷ [])), row none)
+    ∷ (answer fresh (blockOf 0 0 (lawful 1 0 0 0 0 ∷ [])), row none)
     -- fit: each clause, on both sides
     ∷ (fits (state 0 false 4000 96 4096 Zero Zero), test true)
     ∷ (fits (state 0 false 4000 97 0 Zero Zero), test false)
@@ -185,5 +185,5 @@ values =
     ∷ []
 
 pub known : map (λ (v : Result × Result). v .0) values ≡ map (λ (v : Result × Result). v .1) values
-unfolding values littleEndian bytesOf isSignificand isBetween isFit signed value isEqual sum dividedBy quotient settled exponentOf scaledNumerator scaledDenominator goesUp wholeOf placed roundedAt isNegative round field blockNumberOf countOf reservedOf recordAt recordsFrom recordsOf tailOf areZero sumOfWords checkOf hasCheck mostRecords isCount closes isLaidOut isLargerThanAll isSound isLawful areLawful rowOf isMoved rate withRate whole meanOf moreIf withRecord withRecords withBlock isNegativeNumber isFitSum areBlocksFit isFitDepot loadRow leftBy loadOf figuresBy figuresOf vansOf isClosed bookRow addedBy offered countBy ratesOf movedCount exactSum exactMean totalFrom totalOf vansFigures depotAfter bookAfter repliesOf repliesBy recordBytes recordsBytes bodyOf blockOf size
+unfolding values littleEndian bytesOf isSignificand isBetween isFit signed value isEqual sum dividedBy quotient settled exponentOf scaledNumerator scaledDenominator goesUp wholeOf placed roundedAt isNegative round field blockNumberOf countOf editionOf recordAt recordsFrom recordsOf tailOf areZero sumOfWords checkOf hasCheck mostRecords isCount closes isEdition isLaidOut mayFollow remembered isLargerThanAll sixthOf isSound isLawful areLawful rowOf isMoved rate withRate whole meanOf moreIf withRecord withRecords withBlock isNegativeNumber isFitSum areBlocksFit isFitDepot loadRow leftBy loadOf figuresBy figuresOf vansOf isClosed bookEdition bookRow addedBy offered countBy ratesOf movedCount exactSum exactMean totalFrom totalOf vansFigures depotAfter bookAfter repliesOf repliesBy recordBytes recordsBytes bodyOf blockOf size
 known = refl

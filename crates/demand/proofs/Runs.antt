@@ -7,7 +7,7 @@ use Prim.Native.Nat.{ℕ}
 use lib.Dec.{eqb}
 use lib.ListN.{length}
 use Rattle.numbers.specs.declared.task.Mode.the-variants.{Up, Down}
-use Rattle.blocks.specs.Block.{recordsOf, hasCheck, isLaidOut, areLawful, rowOf}
+use Rattle.blocks.specs.Block.{editionOf, recordsOf, hasCheck, isLaidOut, mayFollow, areLawful, rowOf}
 use Rattle.depot.specs.Figures.{meanOf, Figures, figuresBy, bracketFigures}
 use Rattle.depot.specs.Depot.{fresh, isFitDepot, loadRow, leftBy, loadOf, figuresOf, loadingRow, loaded}
 use Rattle.depot.specs.Calls.{Call, load, ask, Reply, toLoad, toAsk, IsRun, ended, loads, asks}
@@ -15,7 +15,7 @@ use Rattle.depot.specs.declared.figures.Bracket.{Bracket}
 use Rattle.depot.specs.declared.figures.Bracket.the-variants as bracket
 use Rattle.depot.specs.declared.load.Load.{Load}
 use Rattle.depot.specs.declared.load.Loading.{Loading}
-use Rattle.depot.specs.declared.load.Loading.the-variants.{Taken, Unfit, WrongLength, Closed, WrongCheck, WrongLayout, WrongRecord}
+use Rattle.depot.specs.declared.load.Loading.the-variants.{Taken, Unfit, WrongLength, Closed, WrongCheck, WrongLayout, WrongEdition, WrongRecord}
 use Rattle.depot.specs.declared.state.Depot.{Depot}
 
 -- one of two, by a test
@@ -36,7 +36,8 @@ row-answered s block =
     (either IsAnswered (s .closed) (Closed, refl)
     (either IsAnswered (not (hasCheck block)) (WrongCheck, refl)
     (either IsAnswered (not (isLaidOut (s .blocks) block)) (WrongLayout, refl)
-    (either IsAnswered (not (areLawful (s .latest ∷ []) (recordsOf block))) (WrongRecord, refl) (Taken, refl))))))
+    (either IsAnswered (not (mayFollow (s .blocks) (s .edition) (editionOf block))) (WrongEdition, refl)
+    (either IsAnswered (not (areLawful (editionOf block) (s .latest ∷ []) (recordsOf block))) (WrongRecord, refl) (Taken, refl)))))))
     (Unfit, refl)
 
 some-load : (s : Depot) (block : List ℕ) → (l : Load) × (loaded l ≡ loadOf s block)

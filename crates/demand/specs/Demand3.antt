@@ -1,6 +1,6 @@
 -- Demand 3, whole: what holds of every division and of every list of calls from a fresh depot, carried to every report; proofs/Demand3 has its proof.
 use Rattle.steps.specs.Theorem.{Division}
-use Rattle.depot.specs.Demand.{CallsHold, RunsHold}
+use Rattle.depot.specs.Demand.{CallsHold, RunsHold, EditionFree}
 use Rattle.reporting.specs.Demand.{ReportsHold}
 
 pub record Demand3 : Type 0 where
@@ -11,5 +11,7 @@ pub record Demand3 : Type 0 where
   pub depot : CallsHold
   -- and the same of every run of the entries themselves
   pub entries : RunsHold
+  -- the figures do not depend on the edition
+  pub editions : EditionFree
   -- what the report of any input prints is what the book says, and its figures bracket the exact mean
   pub reports : ReportsHold

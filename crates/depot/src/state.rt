@@ -14,12 +14,14 @@ const LOWEST_SUM: i32 = -64;
 
 const HIGHEST_SUM: i32 = 64;
 
-// What a depot has taken: how many blocks, whether one of them closed it, the last van (0 before the
-// first), how many vans moved, were parked and were over, and the sums of the rates, rounded down and up.
+// What a depot has taken: how many blocks, whether one of them closed it, the last van and the edition of
+// the first block (both 0 before it), how many vans moved, were parked and were over, and the sums of the
+// rates, rounded down and up.
 pub struct Depot {
     pub blocks: u32,
     pub closed: bool,
     pub latest: u32,
+    pub edition: u32,
     pub moved: u32,
     pub parked: u32,
     pub over: u32,
@@ -36,6 +38,7 @@ impl Depot {
             blocks: 0,
             closed: false,
             latest: 0,
+            edition: 0,
             moved: 0,
             parked: 0,
             over: 0,

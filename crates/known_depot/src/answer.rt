@@ -1,5 +1,5 @@
 // Prints the answer line of a call: `fit` or `unfit` for a state handed in, `taken` for a block, two
-// figures, a rate with its accuracy, or `refused` with the row of document 01's table that refused.
+// figures, a rate with its accuracy, or `refused` with the row that refused.
 use depot::figures::Bracket;
 use depot::load::Loading;
 use division::answer::Quotient;
@@ -25,6 +25,7 @@ pub fn print_loading(answer: Loading) {
         Loading::Closed => print_refused(13),
         Loading::WrongCheck => print_refused(14),
         Loading::WrongLayout => print_refused(15),
+        Loading::WrongEdition => print_refused(21),
         Loading::WrongRecord => print_refused(16),
     }
 }

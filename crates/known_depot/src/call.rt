@@ -1,5 +1,5 @@
-// Reads the call of a line: `fresh`, `blocks`, `vans` or `sums` hands in a state, `load` offers a
-// block, `ask` asks for figures, and `rate` for a rate.
+// Reads the call of a line: `fresh`, `blocks`, `vans`, `sums` or `edition` hands in a state, `load`
+// offers a block, `ask` asks for figures, and `rate` for a rate.
 use super::state;
 use super::state::State;
 use depot::state::Depot;

@@ -1,6 +1,6 @@
-// Reads and prints a state. It has three parts: the blocks taken, `open` or `closed`, and the last van;
-// how many vans moved, were parked and were over; and the sums. A line hands in one part, the others
-// stay.
+// Reads and prints a state. It has four parts: the blocks taken, `open` or `closed`, and the last van;
+// how many vans moved, were parked and were over; the sums; and the edition that is remembered, which is
+// printed where it is not 0. A line hands in one part, the others stay.
 use depot::state::Depot;
 use lines::line;
 use lines::line::Cursor;
@@ -39,6 +39,9 @@ pub fn read(text: &Line, depot: Depot) -> State {
     }
     if let Place::Past(c) = line::begun(text, b"sums") {
         return read_sums(text, c, depot);
+    }
+    if let Place::Past(c) = line::begun(text, b"edition") {
+        return read_edition(text, c, depot);
     }
     State::Unreadable
 }
@@ -126,12 +129,27 @@ fn read_sums(text: &Line, c: Cursor, depot: Depot) -> State {
         blocks: depot.blocks,
         closed: depot.closed,
         latest: depot.latest,
+        edition: depot.edition,
         moved: depot.moved,
         parked: depot.parked,
         over: depot.over,
         low,
         high,
     };
+    State::Read { depot: other, end }
+}
+
+// The state with another edition.
+fn read_edition(text: &Line, c: Cursor, depot: Depot) -> State {
+    let Word::Read {
+        value: edition,
+        next: end,
+    } = line::read_word(text, c)
+    else {
+        return State::Unreadable;
+    };
+    let mut other = depot;
+    other.edition = edition;
     State::Read { depot: other, end }
 }
 
@@ -155,7 +173,16 @@ pub fn print(depot: Depot) {
     out::bytes(b" ");
     let high = depot.high;
     number::print(high);
+    print_edition(depot.edition);
     out::bytes(b"\n");
+}
+
+// Prints the edition, if it is not 0.
+fn print_edition(edition: u32) {
+    if edition != 0 {
+        out::bytes(b" edition");
+        print_word(edition);
+    }
 }
 
 // Prints a space and a number.

@@ -1,5 +1,5 @@
-// Prints the answers: `list` with how many numbers were taken, `written` or `refused` with the row of
-// document 02 that refused, and what loading leaves.
+// Prints the answers: `list` with how many numbers were taken, `edition` with the one asked for, `written`
+// or `refused` with the row that refused, and what loading leaves.
 use depot::figures::Bracket;
 use depot::load::Load;
 use depot::load::Loading;
@@ -20,10 +20,18 @@ pub fn print_list(count: usize) {
     out::bytes(b"\n");
 }
 
+// Prints which edition is asked for.
+pub fn print_edition(edition: u32) {
+    out::bytes(b"edition");
+    print_word(edition);
+    out::bytes(b"\n");
+}
+
 // Prints what writing answers.
 pub fn print_writing(answer: BlockWriting) {
     match answer {
         BlockWriting::Written => out::bytes(b"written\n"),
+        BlockWriting::UnknownEdition => print_refused(15),
         BlockWriting::PartialVan => print_refused(18),
         BlockWriting::TooManyVans => print_refused(19),
         BlockWriting::WrongRecord => print_refused(16),
@@ -56,6 +64,7 @@ fn print_stop(answer: Loading) {
         Loading::Closed => print_row(13),
         Loading::WrongCheck => print_row(14),
         Loading::WrongLayout => print_row(15),
+        Loading::WrongEdition => print_row(21),
         Loading::WrongRecord => print_row(16),
     }
 }

@@ -11,7 +11,7 @@ mod output;
 mod run;
 
 use lines::line;
-use run::Sizes;
+use run::State;
 
 // The most numbers of a list: as many as 205 blocks full of vans have, and no depot takes so many.
 const MOST_NUMBERS: usize = 20_500;
@@ -22,22 +22,22 @@ const MOST_BYTES: usize = 106_496;
 // What reading and running a line leaves.
 struct Turn {
     ended: bool,
-    sizes: Sizes,
+    state: State,
 }
 
 // Reads one line and runs its call.
-fn run_line(list: &mut [u32; MOST_NUMBERS], output: &mut [u8; MOST_BYTES], sizes: Sizes) -> Turn
-    requires { ⌜ (sizes .numbers ≤ 20500) × (sizes .bytes ≤ 106496) ⌝ }
-    ensures { λ r. ⌜ (r .sizes .numbers ≤ 20500) × (r .sizes .bytes ≤ 106496) ⌝ }
+fn run_line(list: &mut [u32; MOST_NUMBERS], output: &mut [u8; MOST_BYTES], state: State) -> Turn
+    requires { ⌜ (state .numbers ≤ 20500) × (state .bytes ≤ 106496) ⌝ }
+    ensures { λ r. ⌜ (r .state .numbers ≤ 20500) × (r .state .bytes ≤ 106496) ⌝ }
 {
     let mut text = [0u8; line::WIDTH];
     let got = io::read_full(libc::STDIN_FILENO, &mut text);
     if got < line::WIDTH {
-        return Turn { ended: true, sizes };
+        return Turn { ended: true, state };
     }
     Turn {
         ended: false,
-        sizes: run::run(call::read(&text), list, output, sizes),
+        state: run::run(call::read(&text), list, output, state),
     }
 }
 
@@ -46,17 +46,18 @@ fn run_line(list: &mut [u32; MOST_NUMBERS], output: &mut [u8; MOST_BYTES], sizes
 fn main() {
     let mut list = [0u32; MOST_NUMBERS];
     let mut output = [0u8; MOST_BYTES];
-    let mut sizes = Sizes {
+    let mut state = State {
         numbers: 0,
         bytes: 0,
+        edition: 0,
     };
     let mut turns = u64::MAX;
     while turns > 0 {
-        let turn = run_line(&mut list, &mut output, sizes);
+        let turn = run_line(&mut list, &mut output, state);
         if turn.ended {
             break;
         }
-        sizes = turn.sizes;
+        state = turn.state;
         turns -= 1;
     }
 }

@@ -3,6 +3,8 @@ ghost use mathlib.Core.Path.{_≡_};
 ghost use lib.ListN.{length};
 ghost use Rattle.io.specs.Counts.{Counts};
 ghost use Rattle.report.specs.Program.{gotOf, bytesRead};
+use blocks::edition::edition_of;
+use blocks::edition::remembered;
 use blocks::judgement::BLOCK_BYTES;
 use blocks::judgement::Judgement;
 use blocks::judgement::judge;
@@ -30,9 +32,11 @@ enum Got {
 pub fn read_blocks(buffer: &mut [u8]) -> Input
     ensures { λ r. ⌜ Counts (bytesRead r) (now (buffer .exit)) ⌝ }
 {
-    // What decides on the next block: its number, whether one before closed the depot, and the last van.
+    // What decides on the next block: its number, whether one before closed the depot, the edition that is
+    // remembered, and the last van.
     let mut due: u32 = 0;
     let mut closed = false;
+    let mut edition: u32 = 0;
     let mut latest: u32 = 0;
     let mut count = 0;
     while buffer.len() - count >= BLOCK_BYTES {
@@ -41,10 +45,11 @@ pub fn read_blocks(buffer: &mut [u8]) -> Input
         };
         count += size;
         let block = &buffer[count - size..count];
-        let Judgement::Lawful = judge(block, due, closed, latest) else {
+        let Judgement::Lawful = judge(block, due, closed, edition, latest) else {
             break;
         };
         let vans = count_of(block);
+        edition = remembered(due, edition, edition_of(block));
         due += 1;
         closed = vans < MOST_RECORDS;
         latest = record_at(block, vans - 1).van;

@@ -1,4 +1,4 @@
-// The row of document 01's table that refused a block.
+// The row of the documents' tables that refused a block.
 ghost use mathlib.Core.Path.{_≡_};
 ghost use Rattle.depot.specs.Depot.{loadingRow};
 ghost use Rattle.reporting.specs.Verdict.{verdictRow};
@@ -21,6 +21,7 @@ pub fn verdict_of(answer: Loading) -> Verdict
         Loading::Closed => Verdict::Refused(13),
         Loading::WrongCheck => Verdict::Refused(14),
         Loading::WrongLayout => Verdict::Refused(15),
+        Loading::WrongEdition => Verdict::Refused(21),
         Loading::WrongRecord => Verdict::Refused(16),
     }
 }

@@ -18,10 +18,10 @@ use Rattle.report.proofs.input.read_blocks.Tie as tie
 
 -- an open depot waits for a block below 205
 abbrev Inv-loop : tie.InvT-loop
-Inv-loop buffer₀ due₀ closed₀ latest₀ count₀ buffer due closed latest count = (count ≤ length buffer) × (length buffer ≡ length buffer₀) × (closed ≡ false → due ≤ 204)
+Inv-loop buffer₀ due₀ closed₀ edition₀ latest₀ count₀ buffer due closed edition latest count = (count ≤ length buffer) × (length buffer ≡ length buffer₀) × (closed ≡ false → due ≤ 204)
 
 abbrev μ-loop : tie.MeasureT-loop
-μ-loop buffer₀ due₀ closed₀ latest₀ count₀ buffer due closed latest count = length buffer - count
+μ-loop buffer₀ due₀ closed₀ edition₀ latest₀ count₀ buffer due closed edition latest count = length buffer - count
 
 -- the piece that was read has room in the buffer
 passed : (count size : ℕ) (part buffer : List ℕ) (i : Input) → 512 ≤ length buffer - count → i ≡ Read size → Counts (bytesRead i) part
@@ -47,35 +47,39 @@ size-is count size whole h e =
 
 add-due : tie.Need-add-due Inv-loop μ-loop
 add-due c =
-    let judged = c .before .before .before in
+    let counted = c .before .before in
+    let judged = counted .before .before .before in
     let loop = judged .before .before .before .before .before .before .before .before .before .before .before in
-    let d = lawful-due _ _ _ _ _ (judged .judge .ensures) (c .before .enum-told2 .given .1) (loop .loop .inv .2) in
+    let d = lawful-due _ _ _ _ _ _ (judged .judge .ensures) (counted .before .enum-told2 .given .1) (loop .loop .inv .2) in
     record { fits = omega (arith, d) }
 
 sub-record-at : tie.Need-sub-record-at Inv-loop μ-loop
 sub-record-at c =
-    let judged = c .before .before .before in
-    rw (c .count-of .ensures) (lawful-count _ _ _ _ _ (judged .judge .ensures) (c .before .enum-told2 .given .1))
+    let counted = c .before .before in
+    let judged = counted .before .before .before in
+    rw (counted .count-of .ensures) (lawful-count _ _ _ _ _ _ (judged .judge .ensures) (counted .before .enum-told2 .given .1))
 
 loop-less : tie.Need-loop-less Inv-loop μ-loop
 loop-less c =
-    let judged = c .before .before .before .before in
+    let counted = c .before .before .before in
+    let judged = counted .before .before .before in
     let read = judged .before .before .before .before in
     let loop = read .before .before .before .before .before .before in
     let end = end-of read in
     let same = read .before .before .before .buffer .given .1 in
-    let full = size-is (loop .before .loop .count) (read .size .given .0 .0) _ (rw same end) (lawful-size _ _ _ _ _ (judged .judge .ensures) (c .before .before .enum-told2 .given .1)) in
+    let full = size-is (loop .before .loop .count) (read .size .given .0 .0) _ (rw same end) (lawful-size _ _ _ _ _ _ (judged .judge .ensures) (counted .before .enum-told2 .given .1)) in
     omega (arith, end, full, same, loop .loop-test .taken)
 
 loop-again : tie.Need-loop-again Inv-loop μ-loop
 loop-again c =
-    let judged = c .before .before .before .before in
+    let counted = c .before .before .before in
+    let judged = counted .before .before .before in
     let read = judged .before .before .before .before in
     let loop = read .before .before .before .before .before .before .before in
     let same = read .before .before .before .buffer .given .1 in (
       omega (arith, end-of read, same),
       same ∙ loop .loop .inv .1,
-      λ e. still-room _ _ _ _ _ (judged .judge .ensures) (c .before .before .enum-told2 .given .1) (loop .loop .inv .2) (ap (λ (n : ℕ). ltb n 20) (sym (c .before .count-of .ensures)) ∙ e),
+      λ e. still-room _ _ _ _ _ _ (judged .judge .ensures) (counted .before .enum-told2 .given .1) (loop .loop .inv .2) (ap (λ (n : ℕ). ltb n 20) (sym (counted .count-of .ensures)) ∙ e),
     )
 
 returns-3 : tie.Need-returns-3 Inv-loop μ-loop
@@ -109,6 +113,8 @@ read-blocks-spec =
     (λ c. let end = end-of (c .before .before) in search needs)
     (λ c κs. search needs)
     (λ c. search needs)
+    (λ c κs. search needs)
+    (λ c κs. search needs)
     (λ c κs. search needs)
     add-due
     sub-record-at

@@ -1,5 +1,5 @@
-/* Writes the block of three vans to standard output, where the report reads it. From the repository's
- * root, with the report built (`rt check report`):
+/* Writes the block of three vans in edition 1 to standard output, where the report reads it. From the
+ * repository's root, with the report built (`rt check report`):
  *
  *     rt staticlib export_blocks
  *     gcc -std=c99 -Wall -Wextra -Werror -o target/example_blocks c/example_blocks.c \
@@ -22,7 +22,8 @@ enum { NUMBERS = sizeof fields / sizeof fields[0], VANS = NUMBERS / NAVEHURO_VAN
 
 int main(void) {
     uint8_t blocks[NAVEHURO_BLOCKS_BYTES(VANS)];
-    uint32_t answer = navehuro_write_blocks(fields, NUMBERS, blocks, sizeof blocks);
+    uint32_t answer = navehuro_write_blocks(NAVEHURO_EDITION_DISTANCE, fields, NUMBERS, blocks,
+                                            sizeof blocks);
     if (answer != NAVEHURO_BLOCKS_WRITTEN) {
         fprintf(stderr, "refused %" PRIu32 "\n", answer);
         return 1;

@@ -12,9 +12,13 @@
  *     fuel    in millilitres
  *     speed   the fastest, in metres per hour
  *
- * The blocks are those that the report program reads, and the only ones that it takes for these vans:
- * 512 bytes each, one after the other, numbered from 0, with 20 vans in each but the last. No vans have
- * no block. A list holds all vans of a depot: another call numbers its blocks from 0 again.
+ * The blocks are those that the report program reads, and the only ones of their edition that it takes
+ * for these vans: 512 bytes each, one after the other, numbered from 0, with 20 vans in each but the last.
+ * No vans have no block. A list holds all vans of a depot: another call numbers its blocks from 0 again.
+ *
+ * The edition says what stands behind the five numbers of a van in its block: 0 in edition 0, its
+ * distance, end less start, in edition 1. All blocks of a depot have one edition; the report's figures do
+ * not depend on it.
  */
 #ifndef NAVEHURO_BLOCKS_H
 #define NAVEHURO_BLOCKS_H
@@ -25,6 +29,10 @@
 #ifdef __cplusplus
 extern "C" {
 #endif
+
+/* The editions. */
+#define NAVEHURO_EDITION_ZERO 0
+#define NAVEHURO_EDITION_DISTANCE 1
 
 /* The numbers of a van in the list. */
 #define NAVEHURO_VAN_FIELDS 5
@@ -49,6 +57,7 @@ extern "C" {
  */
 enum {
     NAVEHURO_BLOCKS_WRITTEN = 0,   /* the output begins with the blocks */
+    NAVEHURO_UNKNOWN_EDITION = 15, /* an edition other than 0 and 1 */
     NAVEHURO_PARTIAL_VAN = 18,     /* the list's length is not a multiple of five */
     NAVEHURO_TOO_MANY_VANS = 19,   /* more than 4,096 vans */
     NAVEHURO_WRONG_RECORD = 16,    /* a van that is 0 or not above the one before it, or end below start */
@@ -56,7 +65,7 @@ enum {
 };
 
 /*
- * Writes the blocks of the vans in `fields` to the front of `output`.
+ * Writes the blocks of the vans in `fields`, in this edition, to the front of `output`.
  *
  * - fields is read, output is written, each of the length behind it: that of fields in numbers, that of
  *   output in bytes. No pointer may be null, also where the length is 0, and each must point at as many
@@ -67,9 +76,13 @@ enum {
  *   as they were; or the answer is a refusal, and all of output is as it was, never written in part. No
  *   other byte is written.
  * - Nothing is kept between calls, so threads may call at the same time on outputs of their own.
+ *
+ * A program that was written for the version without editions has to pass the edition as well and to be
+ * compiled anew. An old object that is only linked anew passes the address of its list for the edition:
+ * it is answered NAVEHURO_UNKNOWN_EDITION, but for an address whose lowest 32 bits are 0.
  */
-uint32_t navehuro_write_blocks(const uint32_t *fields, size_t fields_length, uint8_t *output,
-                               size_t output_length);
+uint32_t navehuro_write_blocks(uint32_t edition, const uint32_t *fields, size_t fields_length,
+                               uint8_t *output, size_t output_length);
 
 #ifdef __cplusplus
 }

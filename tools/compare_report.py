@@ -4,9 +4,9 @@
 
 FOLDER holds the reference model and its maker of blocks, model.py, requests.py and make_blocks.py;
 PROGRAM is the built program, target/bin/report after `rt check report`.  Sound and damaged inputs
-are given whole and, some of them, in small pieces; then come reads that fail, inputs that do not
-end, and writes that fail.  Prints each difference, and how many inputs and how many differences
-there were.  The same inputs come out of every run.
+in either edition, and with a change of edition, are given whole and, some of them, in small pieces;
+then come reads that fail, inputs that do not end, and writes that fail.  Prints each difference, and
+how many inputs and how many differences there were.  The same inputs come out of every run.
 """
 
 from __future__ import annotations
@@ -19,6 +19,7 @@ import sys
 import time
 import tty
 from collections.abc import Iterator
+from itertools import product
 
 if len(sys.argv) != 3:
     sys.exit("usage: python3 tools/compare_report.py FOLDER PROGRAM")
@@ -28,35 +29,40 @@ sys.path.insert(0, FOLDER)
 
 import make_blocks
 import requests
+from rules import RULES
 
-# Document 01's own rules and edition of blocks: those before any request.
-RULES = requests.rules_after(0)
-EDITION = "0"
+# Blocks of one edition, and blocks of edition 0 with those of edition 1 behind them.
+EDITIONS = ("0", "1", "mixed")
 SECONDS = 20
 
 
 def inputs() -> Iterator[tuple[str, bytes]]:
     """Every kind of damage, with ordinary and extreme records, few vans and as many as fit."""
-    for damage in make_blocks.DAMAGES:
-        for style in make_blocks.STYLES:
-            for vans in (1, 19, 20, 21, 50, 100):
-                for seed in (1, 2, 3):
-                    yield made(seed, vans, style, damage)
+    for edition, damage in product(EDITIONS, make_blocks.DAMAGES):
+        for style, vans, seed in product(make_blocks.STYLES, (1, 19, 20, 21, 50, 100), (1, 2, 3)):
+            yield made(seed, vans, style, damage, edition)
         for vans in (4079, 4080, 4081, 4095, 4096):
-            yield made(1, vans, "mixed", damage)
-    block = make_blocks.make_pieces(1, 20, "mixed", "none", EDITION)[0]
+            yield made(1, vans, "mixed", damage, edition)
+    for header, edition in product((0, 1, 2, 255, 256, 257), "01"):
+        pieces = make_blocks.make_pieces(2, 41, "mixed", "none", edition)
+        for i, block in enumerate(pieces):
+            other = make_blocks.put(block, 6, header.to_bytes(2, "little"))
+            yield (f"bytes 6 and 7 of block {i} of edition {edition} are {header}",
+                   b"".join([*pieces[:i], other, *pieces[i + 1:]]))
+    block = make_blocks.make_pieces(1, 20, "mixed", "none", "0")[0]
     for length in range(513):
         yield f"a block cut to {length} bytes", block[:length]
         yield f"{length} zeros", bytes(length)
-    depot = made(1, 4096, "mixed", "none")[1]
+    depot = made(1, 4096, "mixed", "none", "0")[1]
     for more in (b"\0", depot[:512], depot, 3 * depot):
         yield f"4096 vans and {len(more)} bytes more", depot + more
 
 
-def made(seed: int, vans: int, style: str, damage: str) -> tuple[str, bytes]:
+def made(seed: int, vans: int, style: str, damage: str, edition: str) -> tuple[str, bytes]:
     """The name and the bytes of one input."""
-    pieces = make_blocks.make_pieces(seed, vans, style, damage, EDITION)
-    return f"seed {seed}, {vans} vans, {style}, damage {damage}", b"".join(pieces)
+    pieces = make_blocks.make_pieces(seed, vans, style, damage, edition)
+    return (f"seed {seed}, {vans} vans, {style}, damage {damage}, edition {edition}",
+            b"".join(pieces))
 
 
 def whole(data: bytes) -> tuple[bytes, bytes]:
@@ -134,7 +140,7 @@ def main() -> None:
     unread = b"", b"report: cannot read standard input\n"
     comparison.expect("a closed input", with_redirection("<&-"), unread)
     comparison.expect("a folder as input", with_redirection("</"), unread)
-    block = make_blocks.make_pieces(1, 5, "mixed", "none", EDITION)[0]
+    block = make_blocks.make_pieces(1, 5, "mixed", "none", "0")[0]
     for data in (b"", block[:100], block):
         comparison.expect(f"a read that fails after {len(data)} bytes", cut_off(data), unread)
     comparison.expect("a read that would fail behind a refused block", cut_off(block + block),

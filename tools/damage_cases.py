@@ -9,7 +9,7 @@ from typing import Iterator
 
 import model
 from depot_blocks import (
-    END, FUEL, SIXTH, SOME_DAMAGED, SPEED, START, VAN, blocks_of, exchanged, flipped, moved_record,
+    EDITION, END, FUEL, SIXTH, SOME_DAMAGED, SPEED, START, VAN, blocks_of, exchanged, flipped, moved_record,
     place, with_check,
 )
 from depot_calls import Calls
@@ -34,7 +34,7 @@ def damaged_depots(chance: random.Random) -> Iterator[Calls]:
 
 
 def header_fields(chance: random.Random) -> Iterator[Calls]:
-    """Each byte of the number, the count and bytes 6 and 7 changed, the check right again; a block
+    """Each byte of the number, the count and the edition changed, the check right again; a block
     with no record; the tail of each of two blocks at its ends and within."""
     for count in (7, FULL_COUNT):
         calls = Calls()
@@ -42,7 +42,8 @@ def header_fields(chance: random.Random) -> Iterator[Calls]:
         block = calls.next_block(chance, count)
         for at in (0, 1, 2, 3, 5, 6, 7):
             for bits in (1, 0x80):
-                assert calls.load(seal(flipped(block, at, bits))) == 15
+                wanted = 21 if (at, bits) == (EDITION, 1) else 15
+                assert calls.load(seal(flipped(block, at, bits))) == wanted
         for other in (0, FULL_COUNT + 1, 255, LARGEST_WORD >> 16):
             assert calls.load(put(block, 4, struct.pack("<H", other))) == 15
         assert calls.load(calls.due([])) == 15

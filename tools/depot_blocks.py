@@ -8,7 +8,10 @@ import model
 from make_blocks import DAMAGES, edition_blocks
 from model import Record
 
-# Where the fields of a record stand in it.
+# The vans of document 01's example.
+SAMPLE = (Record(1, 0, 1000, 500, 90_000), Record(2, 7, 7, 40, 0), Record(3, 0, 2000, 500, 90_001))
+# Where the edition stands in a block, and the fields of a record in it.
+EDITION = 6
 VAN, START, END, FUEL, SPEED, SIXTH = range(0, 24, 4)
 # The damages that the reference makes to some of the blocks offered.
 SOME_DAMAGED = tuple(damage for name, damage in DAMAGES.items()
@@ -30,9 +33,9 @@ def place(index: int, field: int = 0) -> int:
     return 8 + model.RECORD_BYTES * index + field
 
 
-def blocks_of(records: list[Record]) -> list[bytes]:
-    """The blocks of these records, in document 01's own edition, which is 0."""
-    return edition_blocks(records, lambda i: 0)
+def blocks_of(records: list[Record], edition: int = 0) -> list[bytes]:
+    """The blocks of these records."""
+    return edition_blocks(records, lambda i: edition)
 
 
 def flipped(block: bytes, at: int, bits: int = 1) -> bytes:

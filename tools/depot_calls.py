@@ -7,10 +7,11 @@ from dataclasses import replace
 from typing import Callable, NamedTuple, Optional, Sequence
 
 import model
+import rules
 from make_blocks import random_record
-from model import FRESH, Depot, Figures, Number, Record, Refused
+from model import Figures, Number, Record, Refused
 from operands import marked_text, number_text, refusal_text
-from requests import Rounded, make_block, rate_with_side
+from requests import FRESH, Rounded, State, make_block, rate_with_side
 
 
 class Part(NamedTuple):
@@ -19,7 +20,7 @@ class Part(NamedTuple):
     word: str
     fields: tuple[str, ...]
 
-    def text(self, depot: Depot) -> str:
+    def text(self, depot: State) -> str:
         """The part as a line has it."""
         return " ".join((self.word, *(field_text(getattr(depot, name)) for name in self.fields)))
 
@@ -40,7 +41,13 @@ def figures_text(answer: Figures | Refused) -> str:
 
 PARTS = (Part("blocks", ("blocks", "closed", "last_van")),
          Part("vans", ("moved", "parked", "over")),
-         Part("sums", ("low_sum", "high_sum")))
+         Part("sums", ("low_sum", "high_sum")),
+         Part("edition", ("edition",)))
+
+
+def state_text(depot: State) -> str:
+    """A state as it is printed: an edition of 0 is not."""
+    return " ".join(part.text(depot) for part in PARTS if part.word != "edition" or depot.edition)
 
 
 class Line(NamedTuple):
@@ -53,7 +60,7 @@ class Line(NamedTuple):
 class Offer(NamedTuple):
     """A block offered: the state before, its bytes, and the row if it was refused."""
 
-    depot: Depot
+    depot: State
     block: bytes
     row: Optional[int]
 
@@ -80,7 +87,7 @@ class Calls:
         self.given: list[Line] = []
         self.wanted: list[str] = []
         self.offers: list[Offer] = []
-        self.states: list[Depot] = []
+        self.states: list[State] = []
         self.asked: list[Optional[int]] = []
         self.rates: list[Rate] = []
         self._answered(Line("fresh"), "fit")
@@ -88,7 +95,7 @@ class Calls:
     def _answered(self, line: Line, answer: str) -> None:
         """Adds a line, its answer, and the state that it leaves."""
         self.given.append(line)
-        self.wanted += [answer, " ".join(part.text(self.depot) for part in PARTS)]
+        self.wanted += [answer, state_text(self.depot)]
 
     def hand_in(self, **fields) -> None:
         """Hands in the state with other fields, by a line for each part that differs."""
@@ -96,7 +103,7 @@ class Calls:
         for part in (part for part in PARTS if part.text(other) != part.text(self.depot)):
             values = {name: getattr(other, name) for name in part.fields}
             self.depot = replace(self.depot, **values)
-            fit = model.depot_is_fit(self.depot)
+            fit = rules.is_fit(self.depot)
             self._answered(Line(part.text(other)), "fit" if fit else "unfit")
         assert self.depot == other
         self.states.append(other)
@@ -104,7 +111,7 @@ class Calls:
     def load(self, block: bytes) -> Optional[int]:
         """Offers a block; the row if it is refused."""
         before = self.depot
-        refusal, self.depot = model.load_block(before, block)
+        refusal, self.depot = rules.load_block(before, block)
         text, row = (refusal_text(refusal), refusal.number) if refusal else ("taken", None)
         self.offers.append(Offer(before, block, row))
         self._answered(Line(f"load {len(block)}", block), text)
@@ -112,7 +119,7 @@ class Calls:
 
     def ask(self) -> Optional[int]:
         """Asks for figures; the row if they are refused."""
-        answer = model.figures(self.depot)
+        answer = rules.figures(self.depot)
         row = answer.number if isinstance(answer, Refused) else None
         self.asked.append(row)
         self._answered(Line("ask"), figures_text(answer))
@@ -130,9 +137,11 @@ class Calls:
         """A line that is no call."""
         self._answered(Line(text), "not a call")
 
-    def due(self, records: Sequence[Record]) -> bytes:
-        """The block that is due, with these records."""
-        return make_block(self.depot.blocks, records)
+    def due(self, records: Sequence[Record], edition: Optional[int] = None) -> bytes:
+        """The block that is due, with these records, in the depot's own edition if no other is
+        named."""
+        return make_block(self.depot.blocks, records,
+                          self.depot.edition if edition is None else edition)
 
     def records(self, chance: random.Random, count: int, style: str = "mixed") -> list[Record]:
         """Records that the depot may take next: their vans rise from its last one."""
@@ -144,9 +153,10 @@ class Calls:
             records.append(random_record(chance, van, style))
         return records
 
-    def next_block(self, chance: random.Random, count: int = model.FULL_COUNT) -> bytes:
+    def next_block(self, chance: random.Random, count: int = model.FULL_COUNT,
+                   edition: Optional[int] = None) -> bytes:
         """The block that is due, with as many records that the depot may take."""
-        return self.due(self.records(chance, count))
+        return self.due(self.records(chance, count), edition)
 
     def following(self, count: int, record: Callable[[int], Record]) -> bytes:
         """The block that is due, with the records of the vans right after the last one."""

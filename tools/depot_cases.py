@@ -7,8 +7,8 @@ import random
 from itertools import permutations, product
 from typing import Callable, Iterator
 
-import model
-from depot_blocks import blocks_of, moved_record, parked_record
+import rules
+from depot_blocks import SAMPLE, blocks_of, moved_record, parked_record
 from depot_calls import Calls
 from make_blocks import STYLES, random_record, random_records
 from model import FULL_COUNT, LAST_BLOCK, LAST_COUNT, Record
@@ -25,10 +25,9 @@ def document_depot(chance: random.Random) -> Iterator[Calls]:
     """The example of document 01, and figures asked of a depot that took nothing."""
     calls = Calls()
     assert calls.ask() == 17
-    calls.load(calls.due([Record(1, 0, 1000, 500, 90_000), Record(2, 7, 7, 40, 0),
-                          Record(3, 0, 2000, 500, 90_001)]))
+    calls.load(calls.due(SAMPLE))
     three_eighths = number(3, -3)
-    assert model.figures(calls.depot) == (three_eighths, three_eighths)
+    assert rules.figures(calls.depot) == (three_eighths, three_eighths)
     calls.ask()
     yield calls
 

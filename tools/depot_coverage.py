@@ -3,15 +3,17 @@
 from __future__ import annotations
 
 from collections import Counter
-from itertools import chain, combinations
+from itertools import chain, combinations, product
 
 import model
+import rules
 from depot_calls import Calls, Offer, Rate
-from model import BLOCK_BYTES, FULL_COUNT, LAST_BLOCK, LAST_COUNT, Depot, Record, Refused
+from model import BLOCK_BYTES, FULL_COUNT, LAST_BLOCK, LAST_COUNT, Record, Refused
 from operands import LARGEST_WORD, MARKS
-from requests import ABOVE, BELOW
+from requests import ABOVE, BELOW, State, edition_of
 
-LOADING_ROWS = (3, 9, 13, 14, 15, 16)
+# The rows of a load in their order, by which the first that applies is answered.
+LOADING_ROWS = (3, 9, 13, 14, 15, 21, 16)
 ASKING_ROWS = (3, 17)
 RATE_ROWS = (1, 2, 5)
 # What is asserted: blocks offered, sequences, and how often each row refuses and each rule of a
@@ -22,10 +24,11 @@ LEAST_RATES_REFUSED = 2
 
 
 def rows_of(offer: Offer) -> set[int]:
-    """All rows that apply to a block offered; rows 14 to 16 only to one of the right length."""
+    """All rows that apply to a block offered; rows 14 to 16 and 21 only to one of the right
+    length."""
     depot, block, _ = offer
     rows = set()
-    if not model.depot_is_fit(depot):
+    if not rules.is_fit(depot):
         rows.add(3)
     if depot.closed:
         rows.add(13)
@@ -35,36 +38,38 @@ def rows_of(offer: Offer) -> set[int]:
         rows.add(14)
     if broken_layout(depot, block):
         rows.add(15)
+    if depot.blocks > 0 and edition_of(block) != depot.edition:
+        rows.add(21)
     if model.block_count(block) <= FULL_COUNT and broken_records(depot, block):
         rows.add(16)
     return rows
 
 
-def broken_layout(depot: Depot, block: bytes) -> set[str]:
+def broken_layout(depot: State, block: bytes) -> set[str]:
     """The rules of layout that a block breaks."""
     count = model.block_count(block)
     tail = block[8 + model.RECORD_BYTES * count:508]
     broken = {"number": model.block_number(block) != depot.blocks,
               "count": not 1 <= count <= model.most_records(depot.blocks),
-              "bytes 6-7": any(block[6:8]), "tail": any(tail)}
+              "edition": block[6:8] not in (b"\0\0", b"\1\0"), "tail": any(tail)}
     return {rule for rule in broken if broken[rule]}
 
 
-def broken_records(depot: Depot, block: bytes) -> set[str]:
+def broken_records(depot: State, block: bytes) -> set[str]:
     """The rules of records that a block breaks."""
-    records, broken = model.records_of(block), set()
+    records, broken, edition = model.records_of(block), set(), edition_of(block)
     earlier = [depot.last_van, *(record.van for record in records)]
     for last, record in zip(earlier, records):
         if record.van <= last:
             broken.add("van")
         if record.end < record.start:
             broken.add("odometer")
-        if record.sixth:
+        if record.sixth != (0 if edition == 0 else max(record.end - record.start, 0)):
             broken.add("sixth")
     return broken
 
 
-def broken_clauses(depot: Depot) -> set[str]:
+def broken_clauses(depot: State) -> set[str]:
     """The clauses of fitness that a state breaks."""
     vans = depot.moved + depot.parked
     broken = {"vans": vans > model.MOST_RECORDS, "over": depot.over > vans,
@@ -80,21 +85,25 @@ def refused(offers: list[Offer]) -> Counter:
 
 
 def check_refusals(offers: list[Offer], asked: list[int | None]) -> None:
-    """Every row, alone and with each other one; the rules of row 15 and 16 one by one."""
+    """Every row, alone and with each other one, of which the first is answered; the rules of row 15
+    and 16 one by one, those of row 16 in both editions."""
     assert all(refused(offers)[row] >= LEAST_REFUSALS for row in LOADING_ROWS)
     assert all(asked.count(row) >= LEAST_REFUSALS for row in ASKING_ROWS)
     applying = [(rows_of(offer), offer.row) for offer in offers]
-    assert all(row == min(rows, default=None) for rows, row in applying)
+    assert all(row == next((row for row in LOADING_ROWS if row in rows), None)
+               for rows, row in applying)
     for pair in combinations(LOADING_ROWS, 2):
-        # A block of the wrong length has no check, layout or records for rows 14 to 16 to judge.
+        # A block of the wrong length has nothing for rows 14 to 16 and 21 to judge.
         if pair[0] != 9 or pair[1] == 13:
             assert any(rows.issuperset(pair) and row == pair[0] for rows, row in applying), pair
     layouts = Counter(chain.from_iterable(alone(broken_layout(offer.depot, offer.block))
                                           for offer in offers if offer.row == 15))
-    records = Counter(chain.from_iterable(alone(broken_records(offer.depot, offer.block))
-                                          for offer in offers if offer.row == 16))
     assert len(layouts) == 4 and min(layouts.values()) >= LEAST_BROKEN, layouts
-    assert len(records) == 3 and min(records.values()) >= LEAST_BROKEN, records
+    for edition in (0, 1):
+        records = Counter(chain.from_iterable(
+            alone(broken_records(offer.depot, offer.block)) for offer in offers
+            if offer.row == 16 and edition_of(offer.block) == edition))
+        assert len(records) == 3 and min(records.values()) >= LEAST_BROKEN, records
 
 
 def alone(broken: set[str]) -> set[str]:
@@ -119,7 +128,22 @@ def check_last_block(offers: list[Offer]) -> None:
     assert any(offer.depot.blocks == LAST_BLOCK + 1 and offer.row == 13 for offer in offers)
 
 
-def check_states(states: list[Depot]) -> None:
+def check_editions(offers: list[Offer]) -> None:
+    """Blocks of each edition, and of none, offered to a depot that has taken none, one of each
+    edition, or remembers none that there is; vans that moved and vans that were parked."""
+    seen = {(min(offer.depot.blocks, 1), offer.depot.edition, edition_of(offer.block), offer.row)
+            for offer in offers if len(offer.block) == BLOCK_BYTES}
+    for taken, known, edition in product((0, 1), (0, 1, 7), (0, 1)):
+        clash = taken and known != edition
+        assert (taken, known, edition, 21 if clash else None) in seen, (taken, known, edition)
+    for edition in (2, 255, 256, 257):
+        assert all((taken, taken, edition, 15) in seen for taken in (0, 1)), edition
+    taken = [offer.block for offer in offers if offer.row is None]
+    assert {(edition_of(block), record.moved) for block in taken
+            for record in model.records_of(block)} == set(product((0, 1), (False, True)))
+
+
+def check_states(states: list[State]) -> None:
     """Each clause of fitness at its last fit and its first unfit values, and broken alone."""
     broken = Counter(chain.from_iterable(alone(broken_clauses(state)) for state in states))
     assert len(broken) == 5 and min(broken.values()) >= 2, broken
@@ -160,6 +184,7 @@ def summary(sequences: list[Calls]) -> str:
     check_refusals(offers, asked)
     check_records([record for offer in taken for record in model.records_of(offer.block)])
     check_last_block(offers)
+    check_editions(offers)
     check_states(states)
     rates = [rate for calls in sequences for rate in calls.rates]
     marks = check_rates(rates)

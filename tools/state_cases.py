@@ -7,6 +7,7 @@ from itertools import product
 from typing import Iterator
 
 import model
+import rules
 from depot_blocks import SOME_DAMAGED, moved_record, parked_record
 from depot_calls import Calls
 from make_blocks import random_record
@@ -60,11 +61,11 @@ def fit_states(chance: random.Random) -> Iterator[Calls]:
     """States on the fit side of each clause."""
     for fields in FIT:
         calls = judged(chance, **fields)
-        assert model.depot_is_fit(calls.states[0])
+        assert rules.is_fit(calls.states[0])
         yield calls
     for low, high in (*((x, ZERO) for x in FIT_SUMS), *((ZERO, x) for x in FIT_SUMS)):
         calls = judged(chance, moved=9, low_sum=low, high_sum=high)
-        assert model.depot_is_fit(calls.states[0])
+        assert rules.is_fit(calls.states[0])
         yield calls
 
 
@@ -89,7 +90,7 @@ def left_unfit(chance: random.Random) -> Iterator[Calls]:
         calls = Calls()
         calls.hand_in(**fields)
         calls.ask()
-        assert calls.load(calls.due(records)) is None and not model.depot_is_fit(calls.depot)
+        assert calls.load(calls.due(records)) is None and not rules.is_fit(calls.depot)
         calls.ask()
         assert calls.load(calls.due([moved_record(100)])) == 3
         yield calls

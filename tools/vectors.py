@@ -30,6 +30,7 @@ import damage_cases
 import depot_cases
 import depot_coverage
 import division_cases
+import edition_cases
 import mark_coverage
 import rate_cases
 import rounding_cases
@@ -39,7 +40,7 @@ import writing_coverage
 
 WIDTH = 80
 FAMILIES = (arithmetic_cases, rounding_cases, code_cases, division_cases)
-DEPOT_FAMILIES = (depot_cases, damage_cases, state_cases, rate_cases)
+DEPOT_FAMILIES = (depot_cases, damage_cases, state_cases, rate_cases, edition_cases)
 WRITING_FAMILIES = (writing_cases,)
 
 

@@ -5,11 +5,11 @@ from __future__ import annotations
 import struct
 from typing import NamedTuple, Optional, Sequence
 
-import model
+import rules
 from depot_calls import Line, figures_text
-from model import BLOCK_BYTES, FRESH, FULL_COUNT, Depot, Record
+from model import BLOCK_BYTES, FULL_COUNT, Record
 from operands import refusal_text
-from requests import write_blocks
+from requests import FRESH, State, write_blocks
 
 VAN_FIELDS = 5
 # The most numbers of a list and the most bytes of an output that the program has room for.
@@ -61,9 +61,10 @@ def output_lines(output: bytes) -> list[str]:
 
 
 class Write(NamedTuple):
-    """A list written: its numbers, what the output holds afterwards, and the row if it was
-    refused."""
+    """A list written: the edition, its numbers, what the output holds afterwards, and the row if it
+    was refused."""
 
+    edition: int
     fields: list[int]
     output: bytes
     row: Optional[int]
@@ -74,17 +75,18 @@ class Load(NamedTuple):
     did."""
 
     write: Write
-    depot: Depot
+    depot: State
     row: Optional[int]
 
 
 class Calls:
-    """Calls one after the other from a list that is brought, with no output yet, and their
-    answers."""
+    """Calls one after the other from a list that is brought, with no output yet and edition 0, and
+    their answers."""
 
     def __init__(self, fields: Sequence[int]) -> None:
         self.fields = list(fields)
-        self.last = Write([], b"", None)
+        self.edition = 0
+        self.last = Write(0, [], b"", None)
         self.given: list[Line] = []
         self.wanted: list[str] = []
         self.writes: list[Write] = []
@@ -99,13 +101,18 @@ class Calls:
         self.given.append(line)
         self.wanted += answers
 
+    def ask_for(self, edition: int) -> None:
+        """Asks for an edition from here on."""
+        self.edition = edition
+        self._answered(Line(f"edition {edition}"), f"edition {edition}")
+
     def write(self, numbers: int, length: int) -> Optional[int]:
         """Writes the first numbers of the list into so many bytes; the row if it is refused."""
         assert numbers <= len(self.fields) and length <= MOST_BYTES
         fields = self.fields[:numbers]
-        refusal, output = write_blocks(fields, pattern(length), 0)
+        refusal, output = write_blocks(fields, pattern(length), self.edition)
         text, row = (refusal_text(refusal), refusal.number) if refusal else ("written", None)
-        self.last = Write(fields, output, row)
+        self.last = Write(self.edition, fields, output, row)
         self.writes.append(self.last)
         self._answered(Line(f"write {numbers} {length}"), text, *output_lines(output))
         return row
@@ -114,7 +121,7 @@ class Calls:
         """Loads the whole pieces of the last output, up to one that is refused."""
         depot, row = FRESH, None
         for end in range(BLOCK_BYTES, len(self.last.output) + 1, BLOCK_BYTES):
-            refusal, depot = model.load_block(depot, self.last.output[end - BLOCK_BYTES:end])
+            refusal, depot = rules.load_block(depot, self.last.output[end - BLOCK_BYTES:end])
             if refusal:
                 row = refusal.number
                 break
@@ -122,7 +129,7 @@ class Calls:
         self.loads.append(load)
         self._answered(Line("load"), f"taken {depot.blocks}" + (f" refused {row}" if row else ""),
                        f"vans {depot.moved} {depot.parked} {depot.over}",
-                       figures_text(model.figures(depot)))
+                       figures_text(rules.figures(depot)))
         return load
 
     def no_call(self, text: str, content: bytes = b"") -> None:

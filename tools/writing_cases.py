@@ -1,21 +1,27 @@
 """Sequences of calls of the writer of blocks: document 01's example, a list as long as can be,
-refusals, numbers of vans around a block's, lists of any vans, and lines that are no call."""
+refusals, numbers of vans around a block's, lists of any vans, both editions and others, and lines that
+are no call."""
 
 from __future__ import annotations
 
 import random
+from dataclasses import replace
 from itertools import product
 from typing import Iterator, Sequence
 
-from depot_blocks import moved_record, parked_record
+from depot_blocks import SAMPLE, moved_record, parked_record
 from make_blocks import STYLES, random_record, random_records
-from model import BLOCK_BYTES, FULL_COUNT, MOST_RECORDS, Record, figures
+from model import BLOCK_BYTES, FULL_COUNT, MOST_RECORDS, Record
 from operands import LARGEST_WORD, number
+from requests import EDITIONS
+from rules import figures
 from writing_calls import MOST_BYTES, MOST_NUMBERS, VAN_FIELDS, Calls, fields_of, room_for
 
 # An output this much longer than the blocks has a whole piece and a part of one behind them.
 LONGER = BLOCK_BYTES + 7
 MOST_LAWFUL = VAN_FIELDS * MOST_RECORDS
+# Editions that are none; the lowest byte or the two lowest of some are those of one.
+OTHER_EDITIONS = (2, 3, 255, 256, 257, 65_536, 65_537, 2**31, LARGEST_WORD)
 
 
 def written_again(calls: Calls, numbers: int, length: int) -> None:
@@ -32,8 +38,7 @@ def rising_vans(chance: random.Random, count: int) -> list[int]:
 
 def document_sample(chance: random.Random) -> Iterator[Calls]:
     """The vans of document 01's example: their block, and the figures that it prints."""
-    calls = Calls(fields_of([Record(1, 0, 1000, 500, 90_000), Record(2, 7, 7, 40, 0),
-                             Record(3, 0, 2000, 500, 90_001)]))
+    calls = Calls(fields_of(SAMPLE))
     for length in (BLOCK_BYTES, BLOCK_BYTES + 3):
         written_again(calls, len(calls.fields), length)
         depot = calls.loads[-1].depot
@@ -174,8 +179,67 @@ def any_lists(chance: random.Random) -> Iterator[Calls]:
         yield calls
 
 
+def document_editions(chance: random.Random) -> Iterator[Calls]:
+    """Document 01's example in each edition, and in those that are none, one after the other."""
+    calls = Calls(fields_of(SAMPLE))
+    for edition in (1, *OTHER_EDITIONS, 0):
+        calls.ask_for(edition)
+        if edition in EDITIONS:
+            written_again(calls, len(calls.fields), BLOCK_BYTES + 3)
+            assert figures(calls.loads[-1].depot) == (number(3, -3), number(3, -3))
+        else:
+            assert calls.write(len(calls.fields), BLOCK_BYTES) == 15
+    yield calls
+
+
+def same_vans(chance: random.Random) -> Iterator[Calls]:
+    """Lists of any vans in every style, and of vans with the longest distances, in both editions:
+    the depots differ in the edition alone."""
+    longest = [Record(van, van % 2, LARGEST_WORD - van // 2, van, 0) for van in range(1, 23)]
+    for records in (*(random_records(chance, 41, style) for style in STYLES), longest):
+        calls = Calls(fields_of(records))
+        for edition in EDITIONS:
+            calls.ask_for(edition)
+            written_again(calls, len(calls.fields), room_for(len(calls.fields)) + 1)
+        first, second = (load.depot for load in calls.loads)
+        assert first == replace(second, edition=0) and second.edition == 1
+        yield calls
+
+
+def sets_of_rows(chance: random.Random) -> Iterator[Calls]:
+    """Every set of the rows 15, 18, 19, 16 and 20 that apply at once, those without 15 in edition 1:
+    the first in this order is answered. As many vans as a depot takes in edition 1."""
+    records = [random_record(chance, van, "mixed") for van in range(1, MOST_RECORDS + 3)]
+    for backwards in (False, True):
+        if backwards:
+            records[2] = records[2]._replace(start=9, end=8)
+        calls = Calls(fields_of(records))
+        for unknown, partial, many, short in product((False, True), repeat=4):
+            calls.ask_for(chance.choice(OTHER_EDITIONS) if unknown else 1)
+            numbers = (MOST_LAWFUL + VAN_FIELDS if many else 4 * VAN_FIELDS) + 3 * partial
+            length = room_for(numbers) - short if many else 40 if short else BLOCK_BYTES
+            rows = zip((unknown, partial, many, backwards, short), (15, 18, 19, 16, 20))
+            wanted = next((row for applies, row in rows if applies), None)
+            assert calls.write(numbers, length) == wanted
+        if not backwards:
+            calls.ask_for(1)
+            written_again(calls, MOST_LAWFUL, room_for(MOST_LAWFUL))
+        yield calls
+
+
 # Lines that are no call, for a list of ten numbers: a word is none, a field is missing, one too
 # many, ill made or too large.
+NO_EDITIONS = """\
+edition
+edition1
+edition  1
+edition -1
+edition 1 1
+edition one
+edition 4294967296
+Edition 1
+editions 1
+"""
 NO_CALLS = """\
 
 list
@@ -216,6 +280,19 @@ Load
 """
 
 
+def no_editions(chance: random.Random) -> Iterator[Calls]:
+    """Lines that are no call, and leave the edition; a new list is written in edition 0."""
+    calls = Calls(fields_of(random_records(chance, 2, "ordinary")))
+    calls.ask_for(1)
+    for line in NO_EDITIONS.splitlines():
+        calls.no_call(line)
+    written_again(calls, len(calls.fields), BLOCK_BYTES)
+    yield calls
+    calls = Calls(fields_of(random_records(chance, 2, "ordinary")))
+    written_again(calls, len(calls.fields), BLOCK_BYTES)
+    yield calls
+
+
 def no_calls(chance: random.Random) -> Iterator[Calls]:
     """Lines that are no call, and leave the list and the output; a list that lacks a byte, at the
     end of the input."""
@@ -232,5 +309,6 @@ def no_calls(chance: random.Random) -> Iterator[Calls]:
 # The kind with the list that is cut off stands last.
 KINDS = (
     document_sample, no_vans, longest_list, partial_vans, wrong_records, lawful_ends,
-    counts_of_vans, any_lists, no_calls,
+    counts_of_vans, any_lists, document_editions, same_vans, sets_of_rows, no_editions,
+    no_calls,
 )

@@ -8,10 +8,11 @@ from itertools import chain, combinations
 import model
 from model import BLOCK_BYTES, FULL_COUNT, LAST_BLOCK, MOST_RECORDS, Record
 from operands import LARGEST_WORD
+from requests import EDITIONS, edition_of, sixth_field
 from writing_calls import VAN_FIELDS, Calls, Load, Write, fields_of, pattern, room_for, vans_in
 
 # The rows in document 02's order, by which the first that applies is answered.
-ROWS = (18, 19, 16, 20)
+ROWS = (15, 18, 19, 16, 20)
 # What is asserted: how often each row refuses, and how many lists are written.
 LEAST_REFUSALS, LEAST_WRITTEN = 10, 40
 
@@ -20,7 +21,7 @@ def rows_of(write: Write) -> list[int]:
     """All rows that apply to a list and an output; a part of a van behind the whole ones counts for
     row 18 alone."""
     numbers, vans = len(write.fields), vans_in(write.fields)
-    applying = (numbers % VAN_FIELDS != 0, len(vans) > MOST_RECORDS,
+    applying = (write.edition not in EDITIONS, numbers % VAN_FIELDS != 0, len(vans) > MOST_RECORDS,
                 not model.records_are_good(vans, 0), len(write.output) < room_for(numbers))
     return [row for row, applies in zip(ROWS, applying) if applies]
 
@@ -51,14 +52,17 @@ def check_records(records: list[Record]) -> None:
 
 
 def check_loads(loads: list[Load]) -> None:
-    """The blocks written are taken, and their records are the list; a piece of the pattern is not
-    taken, by an open depot or a closed one. Depots with no block, with one, and with the most."""
-    for (fields, output, refused), depot, row in loads:
+    """The blocks written are taken in their edition, and their records are the list; a piece of the
+    pattern is not taken, by an open depot or a closed one. Depots with no block, with one, and with
+    the most."""
+    for (edition, fields, output, refused), depot, row in loads:
         size = depot.blocks * BLOCK_BYTES
         assert size == (0 if refused else room_for(len(fields)))
         blocks = [output[at:at + BLOCK_BYTES] for at in range(0, size, BLOCK_BYTES)]
         taken = list(chain.from_iterable(model.records_of(block) for block in blocks))
         assert refused or fields_of(taken) == fields
+        assert all(edition_of(block) == edition for block in blocks)
+        assert all(record.sixth == sixth_field(record, edition) for record in taken)
         behind = len(output) - size >= BLOCK_BYTES
         assert row == (None if not behind else 13 if depot.closed else 14)
     stops = {(load.depot.blocks, load.depot.closed, load.row) for load in loads}

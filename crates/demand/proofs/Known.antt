@@ -144,7 +144,8 @@ values =
     -- 14: a changed byte; the sum in place of its complement; in a block with a wrong number too
     ∷ (answer fresh (take 80 sampleBytes ++ (1 ∷ drop 81 sampleBytes)), row (some 14))
     ∷ (answer fresh (bodyOf 0 1 sample ++ bytesOf 4 (sumOfWords 127 (bodyOf 0 1 sample))), row (some 14))
-    -- 15: the number, also above 16 bits, the count 0, the count 21, an edition above 1 by its low and by its high byte, the first and the last byte after the records
+    -- 15: the number, also above 16 bits, the count 0, the count 21, an edition that is none by its low and by its high byte, the first and the last byte after
+    -- the records
     ∷ (answer fresh (blockOf 0 1 sample), row (some 15))
     ∷ (answer fresh (blockOf 0 65536 sample), row (some 15))
     ∷ (answer fresh (blockOf 0 0 []), row (some 15))

@@ -1,4 +1,4 @@
--- Known values of editions, computed. Each line has what the definitions give and what document 02, E3, says.
+-- Known values of editions, computed. Each line has what the definitions give and what request E3 says.
 use mathlib.Core.Path.{_≡_, refl}
 use mathlib.Core.Bool.{true, false}
 use mathlib.Core.List.{List, [], _∷_, map}

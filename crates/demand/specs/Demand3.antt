@@ -11,7 +11,7 @@ pub record Demand3 : Type 0 where
   pub depot : CallsHold
   -- and the same of every run of the entries themselves
   pub entries : RunsHold
-  -- the figures do not depend on the edition
+  -- request E3: the counts, sums and figures do not depend on the editions of the blocks
   pub editions : EditionFree
   -- what the report of any input prints is what the book says, and its figures bracket the exact mean
   pub reports : ReportsHold

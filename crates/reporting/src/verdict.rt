@@ -1,4 +1,4 @@
-// The row of the documents' tables that refused a block.
+// The row that refused a block.
 ghost use mathlib.Core.Path.{_≡_};
 ghost use Rattle.depot.specs.Depot.{loadingRow};
 ghost use Rattle.reporting.specs.Verdict.{verdictRow};

@@ -18,7 +18,7 @@ use Rattle.depot.specs.Book.{vansOf, isClosed, bookEdition, bookRow, addedBy, o
 use Rattle.depot.specs.Calls.{depotAfter, bookAfter, repliesOf, repliesBy}
 use Rattle.depot.specs.Sequence.{recordBytes, recordsBytes, bodyOf, blockOf}
 use Rattle.depot.specs.declared.state.Depot.{Depot}
-use Rattle.demand.proofs.Known.{Result, left, row, figures, lawful, sample, with, answer, threeEighths, threeQuarters}
+use Rattle.demand.proofs.Known.{Result, left, row, figures, test, lawful, sample, with, answer, threeEighths, threeQuarters}
 
 -- a record by its van, start, end, fuel, speed and distance
 abbrev pub distant : ℕ → ℕ → ℕ → ℕ → ℕ → ℕ → Record
@@ -28,13 +28,20 @@ distant van start end fuel speed distance = record { van = van; start = start; e
 abbrev pub distantSample : List Record
 distantSample = distant 1 0 1000 500 90000 1000 ∷ distant 2 7 7 40 0 0 ∷ distant 3 0 2000 500 90001 2000 ∷ []
 
--- an open depot that has taken a full block of an edition, with van 20 last
-abbrev remembers : ℕ → Depot
-remembers edition = record { blocks = 1; closed = false; latest = 20; edition = edition; moved = 20; parked = 0; over = 20; low = Zero; high = Zero }
+-- an open depot that has taken so many blocks, with van 20 last, and remembers an edition
+abbrev taken : ℕ → ℕ → Depot
+taken blocks edition = record { blocks = blocks; closed = false; latest = 20; edition = edition; moved = 20; parked = 0; over = 20; low = Zero; high = Zero }
+
+-- the next van, in edition 0 and in edition 1
+abbrev vanOf0 : Record
+vanOf0 = lawful 21 0 1000 500 0
+
+abbrev vanOf1 : Record
+vanOf1 = distant 21 0 1000 500 0 1000
 
 unfoldable pub values : List (Result × Result)
 values =
-    -- the sample in edition 1: the same counts and figures; and its two sixth fields each in the other edition
+    -- the sample in edition 1: the same counts and figures; and the records of each edition in the other
     (
       left (loadOf fresh (blockOf 1 0 distantSample)),
       left (record { refusal = none; depot = record { blocks = 1; closed = true; latest = 3; edition = 1; moved = 2; parked = 1; over = 1; low = threeQuarters; high = threeQuarters } }),
@@ -46,13 +53,24 @@ values =
     ∷ (answer fresh (blockOf 0 0 (lawful 1 5 5 9 0 ∷ [])), row none)
     ∷ (answer fresh (blockOf 1 0 (lawful 1 5 5 9 0 ∷ [])), row none)
     ∷ (answer fresh (blockOf 2 0 (lawful 1 5 5 9 0 ∷ [])), row (some 15))
+    -- bytes 6 and 7 are the edition, so 256 and 257 are none
+    ∷ (answer fresh (blockOf 256 0 (lawful 1 5 5 9 0 ∷ [])), row (some 15))
+    ∷ (answer fresh (blockOf 257 0 (lawful 1 5 5 9 0 ∷ [])), row (some 15))
     -- 21: another edition than the first block's, before 16 and after 15
-    ∷ (answer (remembers 0) (blockOf 1 1 (distant 21 0 1000 500 0 1000 ∷ [])), row (some 21))
-    ∷ (answer (remembers 0) (blockOf 1 1 (lawful 20 0 1000 500 0 ∷ [])), row (some 21))
-    ∷ (answer (remembers 0) (blockOf 2 1 (lawful 21 0 1000 500 0 ∷ [])), row (some 15))
-    ∷ (answer (remembers 0) (blockOf 0 1 (lawful 21 0 1000 500 0 ∷ [])), row none)
-    ∷ (answer (remembers 1) (blockOf 0 1 (lawful 21 0 1000 500 0 ∷ [])), row (some 21))
-    ∷ (answer (remembers 1) (blockOf 1 1 (distant 21 0 1000 500 0 1000 ∷ [])), row none)
+    ∷ (answer (taken 1 0) (blockOf 0 1 (vanOf0 ∷ [])), row none)
+    ∷ (answer (taken 1 1) (blockOf 1 1 (vanOf1 ∷ [])), row none)
+    ∷ (answer (taken 1 0) (blockOf 1 1 (vanOf1 ∷ [])), row (some 21))
+    ∷ (answer (taken 1 1) (blockOf 0 1 (vanOf0 ∷ [])), row (some 21))
+    ∷ (answer (taken 1 0) (blockOf 1 1 (vanOf0 ∷ [])), row (some 21))
+    ∷ (answer (taken 1 0) (blockOf 2 1 (vanOf0 ∷ [])), row (some 15))
+    -- a refused first block is not remembered: the sample is refused in edition 1 and then taken in edition 0
+    ∷ (answer (with fresh (blockOf 1 0 sample)) (blockOf 0 0 sample), row none)
+    -- a state that remembers an edition that is none is fit, and refuses both; before the first block it takes both
+    ∷ (test (isFitDepot (taken 1 7)), test true)
+    ∷ (answer (taken 1 7) (blockOf 0 1 (vanOf0 ∷ [])), row (some 21))
+    ∷ (answer (taken 1 7) (blockOf 1 1 (vanOf1 ∷ [])), row (some 21))
+    ∷ (answer (taken 0 7) (blockOf 0 0 (vanOf0 ∷ [])), row none)
+    ∷ (answer (taken 0 7) (blockOf 1 0 (vanOf1 ∷ [])), row none)
     ∷ []
 
 pub known-editions : map (λ (v : Result × Result). v .0) values ≡ map (λ (v : Result × Result). v .1) values

@@ -1,3 +1,4 @@
--- The laws of the program: what a read brought (Got), and the size of a piece that is taken (Taken).
+-- The laws of the program: what a read brought (Got), what is kept of the blocks that were taken (Awaited), and the blocks in the buffer (Read).
 pub mod Got
-pub mod Taken
+pub mod Awaited
+pub mod Read

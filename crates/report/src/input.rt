@@ -1,20 +1,24 @@
 // Reads standard input.
 ghost use mathlib.Core.Path.{_≡_};
+ghost use Prim.Native.Nat.{_≤_};
 ghost use lib.ListN.{length};
 ghost use Rattle.io.specs.Counts.{Counts};
-ghost use Rattle.report.specs.Program.{gotOf, bytesRead};
-use blocks::edition::edition_of;
-use blocks::edition::remembered;
+ghost use Rattle.report.specs.Program.{gotOf, bytesIn, bytesRead, Decides};
+use super::awaited::Awaited;
+use super::awaited::Step;
 use blocks::judgement::BLOCK_BYTES;
-use blocks::judgement::Judgement;
-use blocks::judgement::judge;
-use blocks::record::MOST_RECORDS;
-use blocks::record::count_of;
-use blocks::record::record_at;
 use libc::STDIN_FILENO;
 
-// How many bytes were read, or that a read failed.
+// How many bytes were read: all of the input, or as many as decide what is printed; or that a read failed.
 pub enum Input {
+    Ended(usize),
+    Decided(usize),
+    Failed,
+}
+
+// How many bytes of a piece were read, fewer than were asked for only at the end of the input; or that a
+// read failed.
+enum Piece {
     Read(usize),
     Failed,
 }
@@ -26,52 +30,46 @@ enum Got {
     Failed,
 }
 
-// Reads block by block into the buffer, up to and with the first piece that a depot does not take: a
-// block that is refused, or the short or empty piece at the end of the input. A buffer with room for 206
-// blocks always meets one.
-pub fn read_blocks(buffer: &mut [u8]) -> Input
-    ensures { λ r. ⌜ Counts (bytesRead r) (now (buffer .exit)) ⌝ }
+// Reads block by block into a buffer with room for 206 of them, up to the end of the input, or up to and
+// with the first block that a depot does not take: one of the first 206 is, and whatever follows it
+// changes nothing.
+pub(crate) fn read_blocks(buffer: &mut [u8]) -> Input
+    requires { ⌜ 105472 ≤ length (now buffer) ⌝ }
+    ensures { λ r. ⌜ Counts (bytesRead r) (now (buffer .exit)) × Decides r (now (buffer .exit)) ⌝ }
 {
-    // What decides on the next block: its number, whether one before closed the depot, the edition that is
-    // remembered, and the last van.
-    let mut due: u32 = 0;
-    let mut closed = false;
-    let mut edition: u32 = 0;
-    let mut latest: u32 = 0;
+    let mut awaited = Awaited::first();
     let mut count = 0;
     while buffer.len() - count >= BLOCK_BYTES {
-        let Input::Read(size) = read(&mut buffer[count..count + BLOCK_BYTES]) else {
+        let Piece::Read(size) = read(&mut buffer[count..count + BLOCK_BYTES]) else {
             return Input::Failed;
         };
         count += size;
-        let block = &buffer[count - size..count];
-        let Judgement::Lawful = judge(block, due, closed, edition, latest) else {
-            break;
+        if size < BLOCK_BYTES {
+            return Input::Ended(count);
+        }
+        let Step::Next(next) = awaited.after(&buffer[count - BLOCK_BYTES..count]) else {
+            return Input::Decided(count);
         };
-        let vans = count_of(block);
-        edition = remembered(due, edition, edition_of(block));
-        due += 1;
-        closed = vans < MOST_RECORDS;
-        latest = record_at(block, vans - 1).van;
+        awaited = next;
     }
-    Input::Read(count)
+    Input::Decided(count)
 }
 
 // Fills the buffer from its start, until it is full or the input ends. A read that brings less than was
 // asked for is followed by another.
-fn read(buffer: &mut [u8]) -> Input
-    ensures { λ r. ⌜ Counts (bytesRead r) (now (buffer .exit)) ⌝ }
+fn read(buffer: &mut [u8]) -> Piece
+    ensures { λ r. ⌜ Counts (bytesIn r) (now (buffer .exit)) ⌝ }
 {
     let mut from = 0;
     while from < buffer.len() {
         let answer = libc::read(STDIN_FILENO, &mut buffer[from..]);
         match got_of(answer, &buffer[from..]) {
             Got::Bytes(count) => from += count,
-            Got::End => return Input::Read(from),
-            Got::Failed => return Input::Failed,
+            Got::End => return Piece::Read(from),
+            Got::Failed => return Piece::Failed,
         }
     }
-    Input::Read(from)
+    Piece::Read(from)
 }
 
 // What a read with this room answered: a failure is never taken for the end of the input.

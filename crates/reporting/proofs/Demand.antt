@@ -2,7 +2,7 @@
 use mathlib.Core.Bool.{Bool, true, false}
 use mathlib.Core.List.{List, [], _∷_, _++_, append-nil, append-assoc}
 use mathlib.Core.Option.{Option, none, some}
-use mathlib.Core.Path.{_≡_, refl, ap, _∙_}
+use mathlib.Core.Path.{_≡_, refl, _∙_}
 use Prim.Native.Nat.{ℕ, suc, _≤_}
 use native.Mathlib.Nat.{pos-of-ne-zero}
 use borrow.Author.Tests.{eqb-true, eqb-false}
@@ -21,6 +21,7 @@ use Rattle.depot.specs.Calls.{Call, load, bookAfter}
 use Rattle.depot.proofs.Demand.{figures-bracketed}
 use Rattle.depot.proofs.Laws.Amounts.{part-amount}
 use Rattle.depot.proofs.Laws.Bracket.{IsSum, value-amount, round-sum}
+use Rattle.depot.proofs.Laws.Sequence.{sequence-more}
 use Rattle.depot.proofs.Laws.Reached.{stateOf, begun, IsReached, reached-empty, sums-bracketed, length-more, load-agrees, offered-reached, figures-agree}
 use Rattle.reporting.specs.Report.{closingBy, closingText, piecesOf, afterBlock, reportFrom, reportOf}
 use Rattle.reporting.specs.Demand.{IsPrinted, some-moved, none-moved, one-refused, ReportsHold}
@@ -55,15 +56,10 @@ closing book reached all = go (eqb moved 0) refl
 
 -- ---- piece by piece
 
-book-more : (start : Book) (pieces : List (List ℕ)) (piece : List ℕ) → offeredAll start (pieces ++ (piece ∷ [])) ≡ offered (offeredAll start pieces) piece
-unfolding offeredAll
-book-more start [] piece = refl
-book-more start (other ∷ pieces) piece = book-more (offered start other) pieces piece
-
 -- from a book of pieces that were all taken
 printed-from : (pieces : List (List ℕ)) (book : Book) → IsReached book → IsSequence book → All IsBytes pieces
     → IsPrinted (book ++ pieces) (reportFrom (stateOf book) (length book) pieces)
-unfolding reportFrom afterBlock offered addedBy IsSequence IsTaken
+unfolding reportFrom afterBlock offered addedBy
 printed-from [] book reached all are = rw (append-nil book) (closing book reached all)
 printed-from (piece ∷ pieces) book reached all are =
     rw (load-agrees book piece reached) (go (bookRow book piece) refl (λ next all-next. printed-from pieces (book ++ (piece ∷ [])) next all-next (are .1)))
@@ -80,7 +76,7 @@ printed-from (piece ∷ pieces) book reached all are =
         → IsPrinted (book ++ (piece ∷ pieces)) (afterBlock row (length book) (reportFrom (stateOf (offered book piece)) (suc (length book)) pieces))
     go none is rest =
         rw (taken is, ← length-more book piece, ← append-assoc book (piece ∷ []) pieces)
-        (rest (rw (taken is) at (offered-reached book piece (are .0) reached)) (book-more [] book piece ∙ ap (λ (b : Book). offered b piece) all ∙ taken is))
+        (rest (rw (taken is) at (offered-reached book piece (are .0) reached)) (sequence-more book piece all is))
     go (some row) is rest = one-refused book piece pieces row refl all is
 
 pub reports-hold : ReportsHold

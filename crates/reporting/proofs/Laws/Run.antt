@@ -1,17 +1,22 @@
 -- What is left to print after a piece, and how many pieces decide it. A piece that is taken is one of 205: the depot was open and fit, so it had taken fewer, and has then taken one more.
-use mathlib.Core.List.{List, [], _∷_, _++_}
+use mathlib.Core.List.{List, [], _∷_, _++_, append-nil, append-assoc}
 use mathlib.Core.Option.{Option, none, some}
 use mathlib.Core.Path.{_≡_, refl, sym, ap, _∙_}
 use Prim.Native.Nat.{ℕ, zero, suc, min, _+_, _-_, _*_, _<_}
 use native.Mathlib.Omega.{arith}
 use lib.ListN.{length, take, drop}
 use lib.Seq.{take-nil}
+use Rattle.little_endian.specs.Bytes.{IsBytes}
+use Rattle.blocks.specs.Lists.{All}
 use Rattle.blocks.specs.Block.{recordsOf}
 use Rattle.depot.specs.Depot.{fresh, withBlock, Loaded, loadOf, loadingRow, loaded}
+use Rattle.depot.specs.Book.{Book, bookRow, addedBy, offered, IsTaken, IsSequence}
 use Rattle.depot.specs.declared.load.Load.{Load}
 use Rattle.depot.specs.declared.state.Depot.{Depot}
 use Rattle.depot.proofs.Laws.Room.{load-taken, blocks-few}
 use Rattle.depot.proofs.Laws.Vans.{records-more}
+use Rattle.depot.proofs.Laws.Reached.{stateOf, begun, IsReached, reached-empty, load-agrees, offered-reached}
+use Rattle.depot.proofs.Laws.Sequence.{first-taken}
 use Rattle.reporting.specs.Report.{refusedBlockText, piecesOf, afterBlock, reportFrom, reportOf}
 use Rattle.reporting.specs.Verdict.{verdictRow}
 use Rattle.reporting.specs.declared.verdict.Verdict.{Verdict}
@@ -70,6 +75,27 @@ behind-refused position behind (later more) = rw (behind-refused (suc position) 
 pub refused-decides : (k : ℕ) (input rest : List ℕ) → length input ≡ 512 * k → IsRefused fresh (piecesOf input) → reportOf (input ++ rest) ≡ reportOf input
 unfolding reportOf
 refused-decides k input rest e more = rw (pieces-append k input rest e) (behind-refused 0 (piecesOf rest) more)
+
+-- pieces that are all taken, and one behind them that is not
+refused-behind : (book before : Book) (piece : List ℕ) (behind : List (List ℕ)) (row : ℕ) → IsReached book → IsTaken book before → All IsBytes before
+    → bookRow (book ++ before) piece ≡ some row → IsRefused (stateOf book) (before ++ (piece ∷ behind))
+unfolding offered addedBy
+refused-behind book [] piece behind row reached taken are e =
+    here row (ap (λ (l : Loaded). l .refusal) (load-agrees book piece reached) ∙ rw append-nil at e)
+refused-behind book (block ∷ before) piece behind row reached taken are e =
+    let first = first-taken book block before taken in
+    let added : offered book block ≡ book ++ (block ∷ []) = rw (first .0) in
+    let leads : loadOf (stateOf book) block .depot ≡ stateOf (book ++ (block ∷ [])) = ap (λ (l : Loaded). l .depot) (load-agrees book block reached) ∙ ap stateOf added in
+    let next = refused-behind (book ++ (block ∷ [])) before piece behind row (rw added at (offered-reached book block (are .0) reached)) (first .1) (are .1) (rw append-assoc e) in
+    let rest : IsRefused (loadOf (stateOf book) block .depot) (before ++ (piece ∷ behind)) = rw leads next in
+    later rest
+
+-- An input of whole blocks, all taken but the last, prints the same whatever follows.
+pub last-decides : (k : ℕ) (input rest : List ℕ) (before : Book) (piece : List ℕ) (row : ℕ) → length input ≡ 512 * k → piecesOf input ≡ before ++ (piece ∷ []) → IsSequence before
+    → All IsBytes before → bookRow before piece ≡ some row → reportOf (input ++ rest) ≡ reportOf input
+unfolding IsSequence
+last-decides k input rest before piece row size cut taken are e =
+    refused-decides k input rest size (rw (cut, ← begun) (refused-behind [] before piece [] row reached-empty taken are e))
 
 -- ---- the first 206 pieces decide
 

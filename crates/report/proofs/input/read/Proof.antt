@@ -3,7 +3,7 @@ use mathlib.Core.Path.{_≡_, sym, _∙_}
 use Prim.Native.Nat.{_-_, _≤_}
 use lib.ListN.{length}
 use borrow.Author.Needs.{needs}
-use Rattle.report.specs.Program.{bytesRead}
+use Rattle.report.specs.Program.{bytesIn}
 use Rattle.report.proofs.Laws.Got.{came, counts}
 use Rattle.report.proofs.input.read.Statement.{statement}
 use Rattle.report.proofs.input.read.Tie as tie
@@ -15,7 +15,7 @@ abbrev μ-loop : tie.MeasureT-loop
 μ-loop buffer₀ from₀ buffer from = length buffer - from
 
 pub read-spec : {M : Type 1} → statement M
-unfolding bytesRead
+unfolding bytesIn
 read-spec =
     tie.close
     (tie.spec

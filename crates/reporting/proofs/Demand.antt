@@ -17,7 +17,6 @@ use Rattle.blocks.specs.Lists.{All}
 use Rattle.depot.specs.Figures.{whole, meanOf, given, refused, figuresBy}
 use Rattle.depot.specs.Depot.{isNegativeNumber, figuresOf}
 use Rattle.depot.specs.Book.{Book, vansOf, bookRow, addedBy, offered, offeredAll, IsTaken, IsSequence, movedCount, totalOf, vansFigures}
-use Rattle.depot.specs.Calls.{Call, load, bookAfter}
 use Rattle.depot.proofs.Demand.{figures-bracketed}
 use Rattle.depot.proofs.Laws.Amounts.{part-amount}
 use Rattle.depot.proofs.Laws.Bracket.{IsSum, value-amount, round-sum}
@@ -82,14 +81,3 @@ printed-from (piece ∷ pieces) book reached all are =
 pub reports-hold : ReportsHold
 unfolding ReportsHold reportOf IsSequence IsTaken offeredAll
 reports-hold input are = (pieces-cut input, rw (← begun) (printed-from (piecesOf input) [] reached-empty refl (pieces-bytes input are)))
-
--- ---- the book of some pieces is that of the calls that offer them
-
-abbrev pub offers : (pieces : List (List ℕ)) → All IsBytes pieces → List Call
-offers [] are = []
-offers (piece ∷ pieces) are = load piece (are .0) ∷ offers pieces (are .1)
-
-pub book-of-calls : (pieces : List (List ℕ)) (are : All IsBytes pieces) (book : Book) → offeredAll book pieces ≡ bookAfter book (offers pieces are)
-unfolding offeredAll bookAfter
-book-of-calls [] are book = refl
-book-of-calls (piece ∷ pieces) are book = book-of-calls pieces (are .1) (offered book piece)

@@ -24,7 +24,7 @@ from requests import EDITIONS, seal
 # What may stand in bytes 6 and 7; only the first two are editions.
 HEADERS = (0, 1, 2, 255, 256, 257, 65_535)
 # What a state may remember.
-REMEMBERED = (0, 1, 2, 7, 255, 256, 65_536, 65_537, LARGEST_WORD)
+REMEMBERED = (0, 1, 2, 7, 255, 256, 65_536, 65_537, 2**31, 2**31 + 1, LARGEST_WORD)
 
 
 def with_edition(block: bytes, edition: int) -> bytes:
@@ -80,6 +80,20 @@ def headers(chance: random.Random) -> Iterator[Calls]:
                 yield calls
 
 
+def one_bit(chance: random.Random) -> Iterator[Calls]:
+    """Each bit of bytes 6 and 7 alone, over the records of each edition: only the lowest is an
+    edition, the other one."""
+    for edition in EDITIONS:
+        calls = Calls()
+        block = calls.due([moved_record(1, distance=7)], edition)
+        for bit in range(16):
+            wanted = 15 if bit > 0 else None if edition == 1 else 16
+            if wanted is not None:
+                assert calls.load(with_edition(block, 1 << bit)) == wanted
+        assert calls.load(block) is None
+        yield calls
+
+
 def first_refused(chance: random.Random) -> Iterator[Calls]:
     """A first block that is refused by each row is not remembered: one of the other edition is
     taken, and then no more of the first."""
@@ -88,14 +102,79 @@ def first_refused(chance: random.Random) -> Iterator[Calls]:
         for row in (9, 14, 15, 16):
             calls = Calls()
             block = calls.next_block(chance, edition=edition)
-            refused = {9: block[:511], 14: flipped(block, 40), 15: put_word(block, 0, 1),
-                       16: put_word(block, place(3, VAN), 0)}[row]
-            assert calls.load(refused) == row and calls.depot.edition == 0
+            assert calls.load(refused(block, row)) == row and calls.depot.edition == 0
             assert calls.load(calls.next_block(chance, edition=other)) is None
             assert calls.load(calls.next_block(chance, 5, edition)) == 21
             assert calls.load(calls.next_block(chance, 5)) is None
             calls.ask()
             yield calls
+
+
+def refused(block: bytes, row: int) -> bytes:
+    """The block with what this row refuses, its number, edition and records as they were but for
+    that."""
+    return {9: block[:511], 14: flipped(block, 40), 15: put(block, 507, b"\1"),
+            16: put_word(block, place(0, VAN), 0)}[row]
+
+
+def kept(chance: random.Random) -> Iterator[Calls]:
+    """States that remember an edition though they have taken no block, or are closed or unfit: each
+    refusal leaves it, whatever the block's edition; then a block is taken, whatever vans and counts
+    the state says."""
+    for known, edition in product((0, 1, 7), EDITIONS):
+        calls = Calls()
+        calls.hand_in(edition=known, last_van=80, moved=9, parked=4, over=3)
+        calls.ask()
+        for row in (9, 14, 15, 16):
+            assert calls.load(refused(calls.next_block(chance, 2, edition), row)) == row
+        calls.hand_in(closed=True)
+        assert calls.load(calls.next_block(chance, 2, edition)) == 13
+        calls.hand_in(closed=False, over=14)
+        assert calls.load(calls.next_block(chance, 2, edition)) == 3 == calls.ask()
+        calls.hand_in(over=3)
+        assert calls.depot.edition == known
+        assert calls.load(calls.next_block(chance, 2, edition)) is None
+        assert calls.depot.edition == edition
+        yield calls
+
+
+def pairs(chance: random.Random) -> Iterator[Calls]:
+    """Another edition, or one that is none, in a block that is wrong by one thing more."""
+    for known in EDITIONS:
+        calls = begun(chance, known)
+        for edition in (1 - known, 2):
+            block = calls.next_block(chance, 3, edition)
+            backwards = put(block, place(1, START), struct.pack("<2I", 9, 8))
+            wrong = (put_word(block, place(0, VAN), calls.depot.last_van), backwards,
+                     put_word(block, place(2, SIXTH), 5))
+            for other in wrong:
+                assert calls.load(other) == (15 if edition == 2 else 21)
+            assert calls.load(put_word(block, 0, 7)) == 15
+            assert calls.load(put(backwards, 507, b"\1")) == 15
+        yield calls
+
+
+def figures_of_states(chance: random.Random) -> Iterator[Calls]:
+    """Figures of states that remember any edition, and a rate asked for in between: they play no
+    part."""
+    calls = Calls()
+    for known in REMEMBERED:
+        calls.hand_in(edition=known, blocks=chance.choice((0, 3)), moved=9,
+                      low_sum=number(chance.randrange(1, 99), 0), high_sum=number(99, 0))
+        assert calls.ask() is None
+        calls.rate(chance.randrange(99), 7, 2, 53)
+    yield calls
+
+
+def tails(chance: random.Random) -> Iterator[Calls]:
+    """Bytes behind the last record in each edition, that of the next sixth field among them."""
+    for edition in EDITIONS:
+        calls = begun(chance, edition)
+        block = calls.next_block(chance, 4, edition)
+        for at in (place(4), *range(place(4, SIXTH), place(5)), 507):
+            assert calls.load(put(block, at, b"\1")) == 15
+        assert calls.load(block) is None
+        yield calls
 
 
 def later_blocks(chance: random.Random) -> Iterator[Calls]:
@@ -120,6 +199,8 @@ def last_block(chance: random.Random) -> Iterator[Calls]:
         calls = Calls()
         calls.hand_in(blocks=LAST_BLOCK, last_van=80, edition=known)
         assert calls.load(calls.next_block(chance, LAST_COUNT + 1, edition)) == 15
+        wrong = put_word(calls.next_block(chance, LAST_COUNT, edition), place(9, SIXTH), 5)
+        assert calls.load(wrong) == (16 if known == edition else 21)
         row = calls.load(calls.next_block(chance, LAST_COUNT, edition))
         assert row == (None if known == edition else 21)
         yield calls
@@ -127,17 +208,20 @@ def last_block(chance: random.Random) -> Iterator[Calls]:
 
 def sixth_fields(chance: random.Random) -> Iterator[Calls]:
     """In edition 1 the sixth field of the first and of the last record: the distance with each byte
-    changed, one more, one less, zero; and what is left of the distance where the odometer ends below
-    its start."""
+    changed, one more, one less, zero, other sums of start and end; and what is left of the distance
+    where the odometer ends below its start."""
     for index in (0, FULL_COUNT - 1):
         calls = begun(chance, 1)
         first = calls.depot.last_van + 1
-        records = [moved_record(first + i, distance=70_000 + i) for i in range(FULL_COUNT)]
+        records = [Record(first + i, 4_000 + i, 74_000 + 2 * i, 1, 0) for i in range(FULL_COUNT)]
         block = calls.due(records)
-        (distance,) = struct.unpack_from("<I", block, place(index, SIXTH))
+        _, start, end, fuel, *_ = records[index]
+        distance = records[index].distance
         for byte in range(4):
-            assert calls.load(seal(flipped(block, place(index, SIXTH) + byte, 0x10))) == 16
-        for other in (0, distance - 1, distance + 1, records[index].fuel, LARGEST_WORD):
+            for bits in (0x10, 0x80):
+                assert calls.load(seal(flipped(block, place(index, SIXTH) + byte, bits))) == 16
+        for other in (0, distance - 1, distance + 1, fuel, start, end, start + end, -distance,
+                      LARGEST_WORD):
             assert calls.load(put_word(block, place(index, SIXTH), other)) == 16
         for start, end in ((1, 0), (9, 4), (LARGEST_WORD, 0)):
             for other in (0, start - end, end - start, end, start):
@@ -152,6 +236,8 @@ def sixth_fields(chance: random.Random) -> Iterator[Calls]:
         calls = Calls()
         block = calls.due([Record(1, start, end, 1, 1)], 1)
         assert calls.load(put_word(block, place(0, END), end ^ 1)) == 16
+        assert calls.load(put_word(block, place(0, SIXTH), end - start + 1)) == 16
+        assert calls.load(put_word(block, place(0, VAN), 0)) == 16
         assert calls.load(block) is None
         calls.ask()
         yield calls
@@ -228,6 +314,6 @@ def no_editions(chance: random.Random) -> Iterator[Calls]:
 
 
 KINDS = (
-    document_editions, same_records, headers, first_refused, later_blocks, last_block, sixth_fields,
-    handed_in, sets_of_rows, damaged, no_editions,
+    document_editions, same_records, headers, one_bit, first_refused, kept, pairs, later_blocks,
+    last_block, sixth_fields, tails, handed_in, figures_of_states, sets_of_rows, damaged, no_editions,
 )

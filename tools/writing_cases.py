@@ -206,6 +206,43 @@ def same_vans(chance: random.Random) -> Iterator[Calls]:
         yield calls
 
 
+def lists_in_edition_1(chance: random.Random) -> Iterator[Calls]:
+    """In edition 1 no vans, into any output; parts of a van; each fault of the first van, of the last
+    of a block and of the first of the next one; and an output too short by a byte, just long enough,
+    and longer by a whole piece."""
+    calls = Calls([])
+    for edition in (1, 2):
+        calls.ask_for(edition)
+        for length in (0, 40):
+            assert calls.write(0, length) == (None if edition == 1 else 15)
+    yield calls
+    records = random_records(chance, FULL_COUNT + 2, "ordinary")
+    calls = Calls(fields_of(records))
+    numbers, room = len(calls.fields), room_for(len(calls.fields))
+    calls.ask_for(1)
+    for rest in (1, 2, 3, 4):
+        assert calls.write(numbers - rest, room) == 18
+    assert calls.write(numbers, room - 1) == 20
+    for length in (room, room + LONGER):
+        written_again(calls, numbers, length)
+    yield calls
+    for index in (0, FULL_COUNT - 1, FULL_COUNT):
+        for faulty in faults(records, index):
+            calls = Calls(fields_of(faulty))
+            calls.ask_for(1)
+            assert calls.write(numbers, room) == 16
+            yield calls
+
+
+def one_bit(chance: random.Random) -> Iterator[Calls]:
+    """Each bit of an edition alone, for no vans: only the lowest is an edition."""
+    calls = Calls([])
+    for bit in range(32):
+        calls.ask_for(1 << bit)
+        assert calls.write(0, 0) == (15 if bit > 0 else None)
+    yield calls
+
+
 def sets_of_rows(chance: random.Random) -> Iterator[Calls]:
     """Every set of the rows 15, 18, 19, 16 and 20 that apply at once, those without 15 in edition 1:
     the first in this order is answered. As many vans as a depot takes in edition 1."""
@@ -309,6 +346,6 @@ def no_calls(chance: random.Random) -> Iterator[Calls]:
 # The kind with the list that is cut off stands last.
 KINDS = (
     document_sample, no_vans, longest_list, partial_vans, wrong_records, lawful_ends,
-    counts_of_vans, any_lists, document_editions, same_vans, sets_of_rows, no_editions,
-    no_calls,
+    counts_of_vans, any_lists, document_editions, same_vans, lists_in_edition_1, one_bit,
+    sets_of_rows, no_editions, no_calls,
 )

@@ -35,13 +35,13 @@ pub data Result : Type 0 where
 
 -- ---- how a line is written
 
--- a record by its van, start, end, fuel and speed
-abbrev pub lawful : ℕ → ℕ → ℕ → ℕ → ℕ → Record
-lawful van start end fuel speed = record { van = van; start = start; end = end; fuel = fuel; speed = speed; sixth = 0 }
+-- a record of edition 0 by its van, start, end, fuel and speed
+abbrev pub inEdition0 : ℕ → ℕ → ℕ → ℕ → ℕ → Record
+inEdition0 van start end fuel speed = record { van = van; start = start; end = end; fuel = fuel; speed = speed; sixth = 0 }
 
 -- document 01's sample, and the block of its three vans
 abbrev pub sample : List Record
-sample = lawful 1 0 1000 500 90000 ∷ lawful 2 7 7 40 0 ∷ lawful 3 0 2000 500 90001 ∷ []
+sample = inEdition0 1 0 1000 500 90000 ∷ inEdition0 2 7 7 40 0 ∷ inEdition0 3 0 2000 500 90001 ∷ []
 
 abbrev sampleBlock : List ℕ
 sampleBlock = blockOf 0 0 sample
@@ -49,7 +49,7 @@ sampleBlock = blockOf 0 0 sample
 -- n vans after the van v, each with 500 ml over a kilometre
 abbrev pub alike : ℕ → ℕ → List Record
 alike v zero = []
-alike v (suc n) = lawful (suc v) 5 1005 500 90001 ∷ alike (suc v) n
+alike v (suc n) = inEdition0 (suc v) 5 1005 500 90001 ∷ alike (suc v) n
 
 abbrev pub fullBlock : List ℕ
 fullBlock = blockOf 0 0 (alike 0 20)
@@ -123,14 +123,14 @@ values =
     ∷ (replies (repliesBy [] calls), replies (toAsk (refused 17) ∷ toLoad none ∷ toLoad (some 13) ∷ toAsk (given threeEighths threeEighths) ∷ []))
     -- one van with 1 ml over 3 m: low is below a third, high above it; and one with no fuel
     ∷ (
-      figures (figuresOf (with fresh (blockOf 0 0 (lawful 1 0 3 1 0 ∷ [])))),
+      figures (figuresOf (with fresh (blockOf 0 0 (inEdition0 1 0 3 1 0 ∷ [])))),
       figures (given (Finite false (minus 0 2) 0xAAAAAAAAAAAAAAAA) (Finite false (minus 0 2) 0xAAAAAAAAAAAAAAAB)),
     )
-    ∷ (figures (figuresOf (with fresh (blockOf 0 0 (lawful 1 0 3 0 0 ∷ [])))), figures (given Zero Zero))
+    ∷ (figures (figuresOf (with fresh (blockOf 0 0 (inEdition0 1 0 3 0 0 ∷ [])))), figures (given Zero Zero))
     -- a parked van alone, over: counted, and no figures
-    ∷ (count (with fresh (blockOf 0 0 (lawful 1 5 5 9 90001 ∷ [])) .parked), count 1)
-    ∷ (count (with fresh (blockOf 0 0 (lawful 1 5 5 9 90001 ∷ [])) .over), count 1)
-    ∷ (figures (figuresOf (with fresh (blockOf 0 0 (lawful 1 5 5 9 90001 ∷ [])))), figures (refused 17))
+    ∷ (count (with fresh (blockOf 0 0 (inEdition0 1 5 5 9 90001 ∷ [])) .parked), count 1)
+    ∷ (count (with fresh (blockOf 0 0 (inEdition0 1 5 5 9 90001 ∷ [])) .over), count 1)
+    ∷ (figures (figuresOf (with fresh (blockOf 0 0 (inEdition0 1 5 5 9 90001 ∷ [])))), figures (refused 17))
     -- a full block leaves the depot open, one of 19 closes it
     ∷ (test (with fresh fullBlock .closed), test false)
     ∷ (count (with fresh fullBlock .moved), count 20)
@@ -155,19 +155,19 @@ values =
     ∷ (answer fresh (changed 80 (1 ∷ []) sampleBytes), row (some 15))
     ∷ (answer fresh (changed 507 (1 ∷ []) sampleBytes), row (some 15))
     -- and before 16: a wrong number with van 0
-    ∷ (answer fresh (blockOf 0 1 (lawful 0 0 1 1 1 ∷ [])), row (some 15))
+    ∷ (answer fresh (blockOf 0 1 (inEdition0 0 0 1 1 1 ∷ [])), row (some 15))
     -- block 204 takes 16 records and not 17
     ∷ (answer (state 204 false 4080 0 0 Zero Zero) (blockOf 0 204 (alike 4080 16)), row none)
     ∷ (answer (state 204 false 4080 0 0 Zero Zero) (blockOf 0 204 (alike 4080 17)), row (some 15))
     -- 16: van 0, a van twice, a van of an earlier block, a sixth field, its last byte too, an end before its start
-    ∷ (answer fresh (blockOf 0 0 (lawful 0 0 1 1 1 ∷ [])), row (some 16))
-    ∷ (answer fresh (blockOf 0 0 (lawful 5 0 1 1 1 ∷ lawful 5 0 1 1 1 ∷ [])), row (some 16))
+    ∷ (answer fresh (blockOf 0 0 (inEdition0 0 0 1 1 1 ∷ [])), row (some 16))
+    ∷ (answer fresh (blockOf 0 0 (inEdition0 5 0 1 1 1 ∷ inEdition0 5 0 1 1 1 ∷ [])), row (some 16))
     ∷ (answer (with fresh fullBlock) (blockOf 0 1 (alike 19 1)), row (some 16))
     ∷ (answer fresh (changed 28 (1 ∷ []) sampleBytes), row (some 16))
     ∷ (answer fresh (changed 31 (1 ∷ []) sampleBytes), row (some 16))
-    ∷ (answer fresh (blockOf 0 0 (lawful 1 2 1 1 1 ∷ [])), row (some 16))
-    -- zero in all four middle fields is lawful
-    ∷ (answer fresh (blockOf 0 0 (lawful 1 0 0 0 0 ∷ [])), row none)
+    ∷ (answer fresh (blockOf 0 0 (inEdition0 1 2 1 1 1 ∷ [])), row (some 16))
+    -- zero in all four middle fields is inEdition0
+    ∷ (answer fresh (blockOf 0 0 (inEdition0 1 0 0 0 0 ∷ [])), row none)
     -- fit: each clause, on both sides
     ∷ (fits (state 0 false 4000 96 4096 Zero Zero), test true)
     ∷ (fits (state 0 false 4000 97 0 Zero Zero), test false)

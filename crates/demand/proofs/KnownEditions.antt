@@ -7,26 +7,25 @@ use Prim.Native.Nat.{ℕ}
 use lib.Ieee.{size}
 use Rattle.little_endian.specs.Bytes.{littleEndian, bytesOf}
 use Rattle.numbers.specs.Number.{isSignificand, isBetween, isFit}
-use Rattle.numbers.specs.Fraction.{signed, value, isEqual, sum, dividedBy, quotient, isNegative}
+use Rattle.numbers.specs.Fraction.{signed, value, sum, dividedBy, quotient, isNegative}
 use Rattle.numbers.specs.Rounding.{settled, exponentOf, scaledNumerator, scaledDenominator, goesUp, wholeOf, placed, roundedAt, round}
 use Rattle.numbers.specs.declared.number.Number.the-variants.{Zero}
 use Rattle.blocks.specs.Block.{field, blockNumberOf, countOf, editionOf, recordAt, recordsFrom, recordsOf, tailOf, areZero, sumOfWords, checkOf, hasCheck, mostRecords, isCount, closes, isEdition, isLaidOut, mayFollow, remembered, isLargerThanAll, sixthOf, isSound, isLawful, areLawful, rowOf}
 use Rattle.blocks.specs.declared.record.Record.{Record}
 use Rattle.depot.specs.Figures.{isMoved, rate, moreIf, withRate, whole, meanOf, given, figuresBy}
 use Rattle.depot.specs.Depot.{fresh, withRecord, withRecords, withBlock, isNegativeNumber, isFitSum, areBlocksFit, isFitDepot, loadRow, leftBy, loadOf, figuresOf}
-use Rattle.depot.specs.Book.{vansOf, isClosed, bookEdition, bookRow, addedBy, offered, countBy, ratesOf, movedCount, exactSum, exactMean, totalFrom, totalOf, vansFigures}
-use Rattle.depot.specs.Calls.{depotAfter, bookAfter, repliesOf, repliesBy}
+use Rattle.depot.specs.Book.{vansOf, isClosed, bookEdition, bookRow}
 use Rattle.depot.specs.Sequence.{recordBytes, recordsBytes, bodyOf, blockOf}
 use Rattle.depot.specs.declared.state.Depot.{Depot}
-use Rattle.demand.proofs.Known.{Result, left, row, figures, test, lawful, sample, with, answer, threeEighths, threeQuarters}
+use Rattle.demand.proofs.Known.{Result, left, row, figures, test, inEdition0, sample, alike, with, answer, threeEighths, threeQuarters}
 
--- a record by its van, start, end, fuel, speed and distance
-abbrev pub distant : ℕ → ℕ → ℕ → ℕ → ℕ → ℕ → Record
-distant van start end fuel speed distance = record { van = van; start = start; end = end; fuel = fuel; speed = speed; sixth = distance }
+-- a record of edition 1 by its van, start, end, fuel, speed and distance
+abbrev pub inEdition1 : ℕ → ℕ → ℕ → ℕ → ℕ → ℕ → Record
+inEdition1 van start end fuel speed distance = record { van = van; start = start; end = end; fuel = fuel; speed = speed; sixth = distance }
 
 -- document 01's sample in edition 1
-abbrev pub distantSample : List Record
-distantSample = distant 1 0 1000 500 90000 1000 ∷ distant 2 7 7 40 0 0 ∷ distant 3 0 2000 500 90001 2000 ∷ []
+abbrev pub sampleInEdition1 : List Record
+sampleInEdition1 = inEdition1 1 0 1000 500 90000 1000 ∷ inEdition1 2 7 7 40 0 0 ∷ inEdition1 3 0 2000 500 90001 2000 ∷ []
 
 -- an open depot that has taken so many blocks, with van 20 last, and remembers an edition
 abbrev taken : ℕ → ℕ → Depot
@@ -34,28 +33,28 @@ taken blocks edition = record { blocks = blocks; closed = false; latest = 20; ed
 
 -- the next van, in edition 0 and in edition 1
 abbrev vanOf0 : Record
-vanOf0 = lawful 21 0 1000 500 0
+vanOf0 = inEdition0 21 0 1000 500 0
 
 abbrev vanOf1 : Record
-vanOf1 = distant 21 0 1000 500 0 1000
+vanOf1 = inEdition1 21 0 1000 500 0 1000
 
 unfoldable pub values : List (Result × Result)
 values =
     -- the sample in edition 1: the same counts and figures; and the records of each edition in the other
     (
-      left (loadOf fresh (blockOf 1 0 distantSample)),
+      left (loadOf fresh (blockOf 1 0 sampleInEdition1)),
       left (record { refusal = none; depot = record { blocks = 1; closed = true; latest = 3; edition = 1; moved = 2; parked = 1; over = 1; low = threeQuarters; high = threeQuarters } }),
     )
-    ∷ (figures (figuresOf (with fresh (blockOf 1 0 distantSample))), figures (given threeEighths threeEighths))
+    ∷ (figures (figuresOf (with fresh (blockOf 1 0 sampleInEdition1))), figures (given threeEighths threeEighths))
     ∷ (answer fresh (blockOf 1 0 sample), row (some 16))
-    ∷ (answer fresh (blockOf 0 0 distantSample), row (some 16))
-    -- a parked van is lawful in both, and no van is in edition 2
-    ∷ (answer fresh (blockOf 0 0 (lawful 1 5 5 9 0 ∷ [])), row none)
-    ∷ (answer fresh (blockOf 1 0 (lawful 1 5 5 9 0 ∷ [])), row none)
-    ∷ (answer fresh (blockOf 2 0 (lawful 1 5 5 9 0 ∷ [])), row (some 15))
+    ∷ (answer fresh (blockOf 0 0 sampleInEdition1), row (some 16))
+    -- a parked van is inEdition0 in both, and no van is in edition 2
+    ∷ (answer fresh (blockOf 0 0 (inEdition0 1 5 5 9 0 ∷ [])), row none)
+    ∷ (answer fresh (blockOf 1 0 (inEdition0 1 5 5 9 0 ∷ [])), row none)
+    ∷ (answer fresh (blockOf 2 0 (inEdition0 1 5 5 9 0 ∷ [])), row (some 15))
     -- bytes 6 and 7 are the edition, so 256 and 257 are none
-    ∷ (answer fresh (blockOf 256 0 (lawful 1 5 5 9 0 ∷ [])), row (some 15))
-    ∷ (answer fresh (blockOf 257 0 (lawful 1 5 5 9 0 ∷ [])), row (some 15))
+    ∷ (answer fresh (blockOf 256 0 (inEdition0 1 5 5 9 0 ∷ [])), row (some 15))
+    ∷ (answer fresh (blockOf 257 0 (inEdition0 1 5 5 9 0 ∷ [])), row (some 15))
     -- 21: another edition than the first block's, before 16 and after 15
     ∷ (answer (taken 1 0) (blockOf 0 1 (vanOf0 ∷ [])), row none)
     ∷ (answer (taken 1 1) (blockOf 1 1 (vanOf1 ∷ [])), row none)
@@ -63,6 +62,10 @@ values =
     ∷ (answer (taken 1 1) (blockOf 0 1 (vanOf0 ∷ [])), row (some 21))
     ∷ (answer (taken 1 0) (blockOf 1 1 (vanOf0 ∷ [])), row (some 21))
     ∷ (answer (taken 1 0) (blockOf 2 1 (vanOf0 ∷ [])), row (some 15))
+    -- by the book: one of edition 0 and one of edition 1, and before the first block either
+    ∷ (row (bookRow (blockOf 0 0 (alike 0 20) ∷ []) (blockOf 1 1 (vanOf1 ∷ []))), row (some 21))
+    ∷ (row (bookRow (blockOf 0 0 (alike 0 20) ∷ []) (blockOf 0 1 (vanOf0 ∷ []))), row none)
+    ∷ (row (bookRow [] (blockOf 1 0 sampleInEdition1)), row none)
     -- a refused first block is not remembered: the sample is refused in edition 1 and then taken in edition 0
     ∷ (answer (with fresh (blockOf 1 0 sample)) (blockOf 0 0 sample), row none)
     -- a state that remembers an edition that is none is fit, and refuses both; before the first block it takes both
@@ -74,5 +77,5 @@ values =
     ∷ []
 
 pub known-editions : map (λ (v : Result × Result). v .0) values ≡ map (λ (v : Result × Result). v .1) values
-unfolding values littleEndian bytesOf isSignificand isBetween isFit signed value isEqual sum dividedBy quotient settled exponentOf scaledNumerator scaledDenominator goesUp wholeOf placed roundedAt isNegative round field blockNumberOf countOf editionOf recordAt recordsFrom recordsOf tailOf areZero sumOfWords checkOf hasCheck mostRecords isCount closes isEdition isLaidOut mayFollow remembered isLargerThanAll sixthOf isSound isLawful areLawful rowOf isMoved rate withRate whole meanOf moreIf withRecord withRecords withBlock isNegativeNumber isFitSum areBlocksFit isFitDepot loadRow leftBy loadOf figuresBy figuresOf vansOf isClosed bookEdition bookRow addedBy offered countBy ratesOf movedCount exactSum exactMean totalFrom totalOf vansFigures depotAfter bookAfter repliesOf repliesBy recordBytes recordsBytes bodyOf blockOf size
+unfolding values littleEndian bytesOf isSignificand isBetween isFit signed value sum dividedBy quotient settled exponentOf scaledNumerator scaledDenominator goesUp wholeOf placed roundedAt isNegative round field blockNumberOf countOf editionOf recordAt recordsFrom recordsOf tailOf areZero sumOfWords checkOf hasCheck mostRecords isCount closes isEdition isLaidOut mayFollow remembered isLargerThanAll sixthOf isSound isLawful areLawful rowOf isMoved rate withRate whole meanOf moreIf withRecord withRecords withBlock isNegativeNumber isFitSum areBlocksFit isFitDepot loadRow leftBy loadOf figuresBy figuresOf vansOf isClosed bookEdition bookRow recordBytes recordsBytes bodyOf blockOf size
 known-editions = refl

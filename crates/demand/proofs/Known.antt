@@ -166,7 +166,7 @@ values =
     ∷ (answer fresh (changed 28 (1 ∷ []) sampleBytes), row (some 16))
     ∷ (answer fresh (changed 31 (1 ∷ []) sampleBytes), row (some 16))
     ∷ (answer fresh (blockOf 0 0 (inEdition0 1 2 1 1 1 ∷ [])), row (some 16))
-    -- zero in all four middle fields is inEdition0
+    -- zero in all four middle fields is lawful
     ∷ (answer fresh (blockOf 0 0 (inEdition0 1 0 0 0 0 ∷ [])), row none)
     -- fit: each clause, on both sides
     ∷ (fits (state 0 false 4000 96 4096 Zero Zero), test true)

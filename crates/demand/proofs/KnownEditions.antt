@@ -48,7 +48,7 @@ values =
     ∷ (figures (figuresOf (with fresh (blockOf 1 0 sampleInEdition1))), figures (given threeEighths threeEighths))
     ∷ (answer fresh (blockOf 1 0 sample), row (some 16))
     ∷ (answer fresh (blockOf 0 0 sampleInEdition1), row (some 16))
-    -- a parked van is inEdition0 in both, and no van is in edition 2
+    -- a parked van's record is lawful in both editions, and there is no edition 2
     ∷ (answer fresh (blockOf 0 0 (inEdition0 1 5 5 9 0 ∷ [])), row none)
     ∷ (answer fresh (blockOf 1 0 (inEdition0 1 5 5 9 0 ∷ [])), row none)
     ∷ (answer fresh (blockOf 2 0 (inEdition0 1 5 5 9 0 ∷ [])), row (some 15))

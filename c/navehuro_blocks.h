@@ -30,7 +30,7 @@
 extern "C" {
 #endif
 
-/* The editions. */
+/* The editions, by what stands behind the five numbers of a van: 0, or its distance. */
 #define NAVEHURO_EDITION_ZERO 0
 #define NAVEHURO_EDITION_DISTANCE 1
 

@@ -29,20 +29,30 @@ sys.path.insert(0, FOLDER)
 
 import make_blocks
 import requests
+from model import FULL_COUNT, LAST_BLOCK, LAST_COUNT, Record
 from rules import RULES
 
-# Blocks of one edition, and blocks of edition 0 with those of edition 1 behind them.
+# Blocks of one edition, and blocks that change from edition 0 to edition 1 at one of them, which
+# may be the first, or at none.
 EDITIONS = ("0", "1", "mixed")
+# The damages that make other bytes of other blocks; the two that are left out make one file each.
+DAMAGES = [name for name in make_blocks.DAMAGES if name not in ("empty", "overfull-last")]
 SECONDS = 20
 
 
 def inputs() -> Iterator[tuple[str, bytes]]:
-    """Every kind of damage, with ordinary and extreme records, few vans and as many as fit."""
-    for edition, damage in product(EDITIONS, make_blocks.DAMAGES):
+    """Every kind of damage, with ordinary and extreme records, few vans and as many as fit, and too
+    many in the last block; other bytes 6 and 7; blocks cut off, and bytes behind a full depot."""
+    for edition, damage in product(EDITIONS, DAMAGES):
         for style, vans, seed in product(make_blocks.STYLES, (1, 19, 20, 21, 50, 100), (1, 2, 3)):
             yield made(seed, vans, style, damage, edition)
         for vans in (4079, 4080, 4081, 4095, 4096):
             yield made(1, vans, "mixed", damage, edition)
+    most = LAST_BLOCK * FULL_COUNT + LAST_COUNT
+    records = [Record(van, 0, van, 1, 0) for van in range(1, most + 2)]
+    for edition in (0, 1):
+        yield (f"a last block with a record too many, edition {edition}",
+               b"".join(make_blocks.edition_blocks(records, lambda i: edition)))
     for header, edition in product((0, 1, 2, 255, 256, 257), "01"):
         pieces = make_blocks.make_pieces(2, 41, "mixed", "none", edition)
         for i, block in enumerate(pieces):

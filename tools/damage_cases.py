@@ -9,8 +9,8 @@ from typing import Iterator
 
 import model
 from depot_blocks import (
-    EDITION, END, FUEL, SIXTH, SOME_DAMAGED, SPEED, START, VAN, blocks_of, exchanged, flipped, moved_record,
-    place, with_check,
+    EDITION, END, FUEL, SIXTH, SOME_DAMAGED, SPEED, START, VAN, Damage, blocks_of, exchanged,
+    flipped, moved_record, place, with_check,
 )
 from depot_calls import Calls
 from make_blocks import put, put_word, random_records
@@ -19,18 +19,23 @@ from operands import LARGEST_WORD
 from requests import seal
 
 
+def damaged_depot(chance: random.Random, damage: Damage, edition: int = 0) -> Calls:
+    """A depot with blocks of an edition that the reference damages. A refused block is followed by
+    the right one."""
+    calls = Calls()
+    blocks = blocks_of(random_records(chance, 50, "mixed"), edition)
+    for piece in damage(chance, blocks):
+        if calls.load(piece) and calls.depot.blocks < len(blocks):
+            calls.ask()
+            calls.load(blocks[calls.depot.blocks])
+    calls.ask()
+    return calls
+
+
 def damaged_depots(chance: random.Random) -> Iterator[Calls]:
-    """Depots with each damage that the reference makes. A refused block is followed by the right
-    one."""
+    """Depots with each damage that the reference makes."""
     for damage, _ in product(SOME_DAMAGED, range(2)):
-        calls = Calls()
-        blocks = blocks_of(random_records(chance, 50, "mixed"))
-        for piece in damage(chance, blocks):
-            if calls.load(piece) and calls.depot.blocks < len(blocks):
-                calls.ask()
-                calls.load(blocks[calls.depot.blocks])
-        calls.ask()
-        yield calls
+        yield damaged_depot(chance, damage)
 
 
 def header_fields(chance: random.Random) -> Iterator[Calls]:
@@ -140,7 +145,8 @@ def lengths(chance: random.Random) -> Iterator[Calls]:
 
 
 def sets_of_rows(chance: random.Random) -> Iterator[Calls]:
-    """Every set of the rows 3, 9 and 13 to 16 that apply at once: the lowest is answered."""
+    """Every set of the rows 3, 9 and 13 to 16 that apply at once: the lowest is answered. Row 15
+    applies by the edition 256, to which row 21 applies too."""
     for unfit, short, closed, check, layout, record in product((False, True), repeat=6):
         calls = Calls()
         calls.load(calls.next_block(chance))

@@ -2,7 +2,9 @@
 
 from __future__ import annotations
 
+import random
 import struct
+from typing import Callable
 
 import model
 from make_blocks import DAMAGES, edition_blocks
@@ -13,6 +15,8 @@ SAMPLE = (Record(1, 0, 1000, 500, 90_000), Record(2, 7, 7, 40, 0), Record(3, 0, 
 # Where the edition stands in a block, and the fields of a record in it.
 EDITION = 6
 VAN, START, END, FUEL, SPEED, SIXTH = range(0, 24, 4)
+# A damage: the pieces in place of some blocks, picked by chance.
+Damage = Callable[[random.Random, list[bytes]], list[bytes]]
 # The damages that the reference makes to some of the blocks offered.
 SOME_DAMAGED = tuple(damage for name, damage in DAMAGES.items()
                      if name not in ("none", "empty", "overfull-last"))

@@ -100,13 +100,15 @@ class Calls:
     def hand_in(self, **fields) -> None:
         """Hands in the state with other fields, by a line for each part that differs."""
         other = replace(self.depot, **fields)
-        for part in (part for part in PARTS if part.text(other) != part.text(self.depot)):
+        parts = [part for part in PARTS if part.text(other) != part.text(self.depot)]
+        for part in parts:
             values = {name: getattr(other, name) for name in part.fields}
             self.depot = replace(self.depot, **values)
             fit = rules.is_fit(self.depot)
             self._answered(Line(part.text(other)), "fit" if fit else "unfit")
         assert self.depot == other
-        self.states.append(other)
+        if parts:
+            self.states.append(other)
 
     def load(self, block: bytes) -> Optional[int]:
         """Offers a block; the row if it is refused."""

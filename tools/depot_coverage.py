@@ -10,7 +10,7 @@ import rules
 from depot_calls import Calls, Offer, Rate
 from model import BLOCK_BYTES, FULL_COUNT, LAST_BLOCK, LAST_COUNT, Record, Refused
 from operands import LARGEST_WORD, MARKS
-from requests import ABOVE, BELOW, State, edition_of
+from requests import ABOVE, BELOW, EDITIONS, State, edition_of
 
 # The rows of a load in their order, by which the first that applies is answered.
 LOADING_ROWS = (3, 9, 13, 14, 15, 21, 16)
@@ -51,7 +51,7 @@ def broken_layout(depot: State, block: bytes) -> set[str]:
     tail = block[8 + model.RECORD_BYTES * count:508]
     broken = {"number": model.block_number(block) != depot.blocks,
               "count": not 1 <= count <= model.most_records(depot.blocks),
-              "edition": block[6:8] not in (b"\0\0", b"\1\0"), "tail": any(tail)}
+              "edition": edition_of(block) not in EDITIONS, "tail": any(tail)}
     return {rule for rule in broken if broken[rule]}
 
 
@@ -64,7 +64,7 @@ def broken_records(depot: State, block: bytes) -> set[str]:
             broken.add("van")
         if record.end < record.start:
             broken.add("odometer")
-        if record.sixth != (0 if edition == 0 else max(record.end - record.start, 0)):
+        if record.sixth != (max(record.end - record.start, 0) if edition == 1 else 0):
             broken.add("sixth")
     return broken
 
@@ -99,7 +99,7 @@ def check_refusals(offers: list[Offer], asked: list[int | None]) -> None:
     layouts = Counter(chain.from_iterable(alone(broken_layout(offer.depot, offer.block))
                                           for offer in offers if offer.row == 15))
     assert len(layouts) == 4 and min(layouts.values()) >= LEAST_BROKEN, layouts
-    for edition in (0, 1):
+    for edition in EDITIONS:
         records = Counter(chain.from_iterable(
             alone(broken_records(offer.depot, offer.block)) for offer in offers
             if offer.row == 16 and edition_of(offer.block) == edition))
@@ -129,18 +129,20 @@ def check_last_block(offers: list[Offer]) -> None:
 
 
 def check_editions(offers: list[Offer]) -> None:
-    """Blocks of each edition, and of none, offered to a depot that has taken none, one of each
-    edition, or remembers none that there is; vans that moved and vans that were parked."""
+    """Blocks of each edition, and of others, offered to a depot with a block and without one, which
+    remembers either edition or another; such a block where the depot remembers just its edition;
+    vans that moved and vans that were parked."""
     seen = {(min(offer.depot.blocks, 1), offer.depot.edition, edition_of(offer.block), offer.row)
             for offer in offers if len(offer.block) == BLOCK_BYTES}
-    for taken, known, edition in product((0, 1), (0, 1, 7), (0, 1)):
+    for taken, known, edition in product((0, 1), (0, 1, 7), EDITIONS):
         clash = taken and known != edition
         assert (taken, known, edition, 21 if clash else None) in seen, (taken, known, edition)
     for edition in (2, 255, 256, 257):
-        assert all((taken, taken, edition, 15) in seen for taken in (0, 1)), edition
+        states = ((0, 0), (1, 0), (1, 1), (0, edition), (1, edition))
+        assert all((*state, edition, 15) in seen for state in states), edition
     taken = [offer.block for offer in offers if offer.row is None]
     assert {(edition_of(block), record.moved) for block in taken
-            for record in model.records_of(block)} == set(product((0, 1), (False, True)))
+            for record in model.records_of(block)} == set(product(EDITIONS, (False, True)))
 
 
 def check_states(states: list[State]) -> None:

@@ -1,5 +1,5 @@
-"""Sequences of calls of a depot in both editions: bytes 6 and 7, sixth fields, blocks of another edition
-than the first one's, and states handed in with any edition; and lines that are no call."""
+"""Sequences of calls of a depot in both editions: bytes 6 and 7, sixth fields, blocks of another
+edition than the first one's, and states handed in with any edition; and lines that are no call."""
 
 from __future__ import annotations
 
@@ -11,9 +11,10 @@ from typing import Iterator
 
 import model
 import rules
+from damage_cases import damaged_depot
 from depot_blocks import (
-    EDITION, END, SAMPLE, SIXTH, SOME_DAMAGED, START, VAN, blocks_of, flipped, moved_record, parked_record,
-    place, with_check,
+    EDITION, END, SAMPLE, SIXTH, SOME_DAMAGED, START, VAN, blocks_of, flipped, moved_record,
+    parked_record, place, with_check,
 )
 from depot_calls import Calls
 from make_blocks import STYLES, put, put_word, random_records
@@ -82,7 +83,7 @@ def headers(chance: random.Random) -> Iterator[Calls]:
 
 def one_bit(chance: random.Random) -> Iterator[Calls]:
     """Each bit of bytes 6 and 7 alone, over the records of each edition: only the lowest is an
-    edition, the other one."""
+    edition."""
     for edition in EDITIONS:
         calls = Calls()
         block = calls.due([moved_record(1, distance=7)], edition)
@@ -118,28 +119,31 @@ def refused(block: bytes, row: int) -> bytes:
 
 
 def kept(chance: random.Random) -> Iterator[Calls]:
-    """States that remember an edition though they have taken no block, or are closed or unfit: each
+    """States that remember an edition, with no block taken and with one, or are closed or unfit: each
     refusal leaves it, whatever the block's edition; then a block is taken, whatever vans and counts
-    the state says."""
-    for known, edition in product((0, 1, 7), EDITIONS):
+    the state says, unless the edition is another one after a block."""
+    for known, edition, blocks in product((0, 1, 7), EDITIONS, (0, 1)):
+        clash = blocks > 0 and known != edition
         calls = Calls()
-        calls.hand_in(edition=known, last_van=80, moved=9, parked=4, over=3)
+        calls.hand_in(edition=known, blocks=blocks, last_van=80, moved=9, parked=4, over=3)
         calls.ask()
         for row in (9, 14, 15, 16):
-            assert calls.load(refused(calls.next_block(chance, 2, edition), row)) == row
+            wanted = 21 if clash and row == 16 else row
+            assert calls.load(refused(calls.next_block(chance, 2, edition), row)) == wanted
         calls.hand_in(closed=True)
         assert calls.load(calls.next_block(chance, 2, edition)) == 13
         calls.hand_in(closed=False, over=14)
         assert calls.load(calls.next_block(chance, 2, edition)) == 3 == calls.ask()
         calls.hand_in(over=3)
         assert calls.depot.edition == known
-        assert calls.load(calls.next_block(chance, 2, edition)) is None
-        assert calls.depot.edition == edition
+        row = calls.load(calls.next_block(chance, 2, edition))
+        assert row == (21 if clash else None)
+        assert calls.depot.edition == (known if clash else edition)
         yield calls
 
 
 def pairs(chance: random.Random) -> Iterator[Calls]:
-    """Another edition, or one that is none, in a block that is wrong by one thing more."""
+    """Another edition, or one that is none, in a block that is wrong by one or two things more."""
     for known in EDITIONS:
         calls = begun(chance, known)
         for edition in (1 - known, 2):
@@ -151,29 +155,6 @@ def pairs(chance: random.Random) -> Iterator[Calls]:
                 assert calls.load(other) == (15 if edition == 2 else 21)
             assert calls.load(put_word(block, 0, 7)) == 15
             assert calls.load(put(backwards, 507, b"\1")) == 15
-        yield calls
-
-
-def figures_of_states(chance: random.Random) -> Iterator[Calls]:
-    """Figures of states that remember any edition, and a rate asked for in between: they play no
-    part."""
-    calls = Calls()
-    for known in REMEMBERED:
-        calls.hand_in(edition=known, blocks=chance.choice((0, 3)), moved=9,
-                      low_sum=number(chance.randrange(1, 99), 0), high_sum=number(99, 0))
-        assert calls.ask() is None
-        calls.rate(chance.randrange(99), 7, 2, 53)
-    yield calls
-
-
-def tails(chance: random.Random) -> Iterator[Calls]:
-    """Bytes behind the last record in each edition, that of the next sixth field among them."""
-    for edition in EDITIONS:
-        calls = begun(chance, edition)
-        block = calls.next_block(chance, 4, edition)
-        for at in (place(4), *range(place(4, SIXTH), place(5)), 507):
-            assert calls.load(put(block, at, b"\1")) == 15
-        assert calls.load(block) is None
         yield calls
 
 
@@ -215,19 +196,18 @@ def sixth_fields(chance: random.Random) -> Iterator[Calls]:
         first = calls.depot.last_van + 1
         records = [Record(first + i, 4_000 + i, 74_000 + 2 * i, 1, 0) for i in range(FULL_COUNT)]
         block = calls.due(records)
-        _, start, end, fuel, *_ = records[index]
-        distance = records[index].distance
+        right, distance = records[index], records[index].distance
         for byte in range(4):
             for bits in (0x10, 0x80):
                 assert calls.load(seal(flipped(block, place(index, SIXTH) + byte, bits))) == 16
-        for other in (0, distance - 1, distance + 1, fuel, start, end, start + end, -distance,
-                      LARGEST_WORD):
+        for other in (0, distance - 1, distance + 1, right.fuel, right.start, right.end,
+                      right.start + right.end, -distance, LARGEST_WORD):
             assert calls.load(put_word(block, place(index, SIXTH), other)) == 16
         for start, end in ((1, 0), (9, 4), (LARGEST_WORD, 0)):
             for other in (0, start - end, end - start, end, start):
                 words = put(block, place(index, START), struct.pack("<2I", start, end))
                 assert calls.load(put_word(words, place(index, SIXTH), other)) == 16
-        for van in (0, records[index].van - 1):
+        for van in (0, right.van - 1):
             assert calls.load(put_word(block, place(index, VAN), van)) == 16
         assert calls.load(block) is None
         calls.ask()
@@ -243,6 +223,17 @@ def sixth_fields(chance: random.Random) -> Iterator[Calls]:
         yield calls
 
 
+def tails(chance: random.Random) -> Iterator[Calls]:
+    """Bytes behind the last record in each edition, that of the next sixth field among them."""
+    for edition in EDITIONS:
+        calls = begun(chance, edition)
+        block = calls.next_block(chance, 4, edition)
+        for at in (place(4), *range(place(4, SIXTH), place(5)), 507):
+            assert calls.load(put(block, at, b"\1")) == 15
+        assert calls.load(block) is None
+        yield calls
+
+
 def handed_in(chance: random.Random) -> Iterator[Calls]:
     """States that remember any edition, before the first block and after it: all are fit, and before
     the first block what they remember plays no part."""
@@ -255,6 +246,28 @@ def handed_in(chance: random.Random) -> Iterator[Calls]:
         assert calls.depot.edition == (known if row else edition)
         calls.ask()
         yield calls
+
+
+def own_edition(chance: random.Random) -> Iterator[Calls]:
+    """A block of an edition that is none, for a state that remembers just that one: 15 all the
+    same."""
+    for known, blocks in product(HEADERS[2:], (0, 1)):
+        calls = Calls()
+        calls.hand_in(edition=known, blocks=blocks)
+        assert calls.load(with_edition(calls.due([parked_record(1)], 0), known)) == 15
+        yield calls
+
+
+def figures_of_states(chance: random.Random) -> Iterator[Calls]:
+    """Figures of states that remember any edition, and a rate asked for in between: they play no
+    part."""
+    calls = Calls()
+    for known in REMEMBERED:
+        calls.hand_in(edition=known, blocks=chance.choice((0, 3)), moved=9,
+                      low_sum=number(chance.randrange(1, 99), 0), high_sum=number(99, 0))
+        assert calls.ask() is None
+        calls.rate(chance.randrange(99), 7, 2, 53)
+    yield calls
 
 
 def sets_of_rows(chance: random.Random) -> Iterator[Calls]:
@@ -280,19 +293,13 @@ def sets_of_rows(chance: random.Random) -> Iterator[Calls]:
 
 
 def damaged(chance: random.Random) -> Iterator[Calls]:
-    """Depots of edition 1 with each damage that the reference makes, the right block after each."""
+    """Depots of edition 1 with each damage that the reference makes."""
     for damage in SOME_DAMAGED:
-        calls = Calls()
-        blocks = blocks_of(random_records(chance, 50, "mixed"), 1)
-        for piece in damage(chance, blocks):
-            if calls.load(piece) and calls.depot.blocks < len(blocks):
-                calls.load(blocks[calls.depot.blocks])
-        calls.ask()
-        yield calls
+        yield damaged_depot(chance, damage, 1)
 
 
 # Lines that are no call: the edition is missing, one too many, ill made or too large.
-NO_CALLS = """\
+NO_EDITIONS = """\
 edition
 edition1
 edition  1
@@ -308,12 +315,13 @@ editions 1
 def no_editions(chance: random.Random) -> Iterator[Calls]:
     """Lines that are no call, for a depot of edition 1."""
     calls = begun(chance, 1)
-    for line in NO_CALLS.splitlines():
+    for line in NO_EDITIONS.splitlines():
         calls.no_call(line)
     yield calls
 
 
 KINDS = (
     document_editions, same_records, headers, one_bit, first_refused, kept, pairs, later_blocks,
-    last_block, sixth_fields, tails, handed_in, figures_of_states, sets_of_rows, damaged, no_editions,
+    last_block, sixth_fields, tails, handed_in, own_edition, figures_of_states, sets_of_rows, damaged,
+    no_editions,
 )

@@ -3,7 +3,7 @@
 from __future__ import annotations
 
 from collections import Counter
-from itertools import chain, combinations
+from itertools import chain, combinations, product
 
 import model
 from model import BLOCK_BYTES, FULL_COUNT, LAST_BLOCK, MOST_RECORDS, Record
@@ -41,6 +41,14 @@ def check_writes(writes: list[Write]) -> Counter:
     return counts
 
 
+def check_editions(writes: list[Write]) -> None:
+    """Each edition written; each of the others refused for whole vans and for a part of one."""
+    seen = {(write.edition, len(write.fields) % VAN_FIELDS != 0, write.row) for write in writes}
+    assert all((edition, False, None) in seen for edition in EDITIONS)
+    others = {2, 255, 256, 257, 65_535, 65_536, 65_537, LARGEST_WORD}
+    assert all((edition, partial, 15) in seen for edition, partial in product(others, (False, True)))
+
+
 def check_records(records: list[Record]) -> None:
     """The lowest and the highest value of each field, and vans that moved or not, over or not,
     among the records written."""
@@ -76,6 +84,7 @@ def summary(sequences: list[Calls]) -> str:
     writes = [write for calls in sequences for write in calls.writes]
     loads = [load for calls in sequences for load in calls.loads]
     counts = check_writes(writes)
+    check_editions(writes)
     written = [vans_in(write.fields) for write in writes if write.row is None]
     assert {0, 1, FULL_COUNT - 1, FULL_COUNT, FULL_COUNT + 1, MOST_RECORDS} <= {*map(len, written)}
     check_records(list(chain.from_iterable(written)))

@@ -47,7 +47,7 @@ abbrev sampleBlock : List ℕ
 sampleBlock = blockOf 0 0 sample
 
 -- n vans after the van v, each with 500 ml over a kilometre
-abbrev pub alike : ℕ → ℕ → List Record
+abbrev alike : ℕ → ℕ → List Record
 alike v zero = []
 alike v (suc n) = inEdition0 (suc v) 5 1005 500 90001 ∷ alike (suc v) n
 

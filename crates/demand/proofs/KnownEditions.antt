@@ -3,7 +3,7 @@ use mathlib.Core.Path.{_≡_, refl}
 use mathlib.Core.Bool.{true, false}
 use mathlib.Core.List.{List, [], _∷_, map}
 use mathlib.Core.Option.{none, some}
-use Prim.Native.Nat.{ℕ}
+use Prim.Native.Nat.{ℕ, zero, suc}
 use lib.Ieee.{size}
 use Rattle.little_endian.specs.Bytes.{littleEndian, bytesOf}
 use Rattle.numbers.specs.Number.{isSignificand, isBetween, isFit}
@@ -17,7 +17,7 @@ use Rattle.depot.specs.Depot.{fresh, withRecord, withRecords, withBlock, isNega
 use Rattle.depot.specs.Book.{vansOf, isClosed, bookEdition, bookRow}
 use Rattle.depot.specs.Sequence.{recordBytes, recordsBytes, bodyOf, blockOf}
 use Rattle.depot.specs.declared.state.Depot.{Depot}
-use Rattle.demand.proofs.Known.{Result, left, row, figures, test, inEdition0, sample, alike, with, answer, threeEighths, threeQuarters}
+use Rattle.demand.proofs.Known.{Result, left, row, figures, test, inEdition0, sample, fullBlock, with, answer, threeEighths, threeQuarters}
 
 -- a record of edition 1 by its van, start, end, fuel, speed and distance
 abbrev pub inEdition1 : ℕ → ℕ → ℕ → ℕ → ℕ → ℕ → Record
@@ -26,6 +26,14 @@ inEdition1 van start end fuel speed distance = record { van = van; start = start
 -- document 01's sample in edition 1
 abbrev pub sampleInEdition1 : List Record
 sampleInEdition1 = inEdition1 1 0 1000 500 90000 1000 ∷ inEdition1 2 7 7 40 0 0 ∷ inEdition1 3 0 2000 500 90001 2000 ∷ []
+
+-- n vans of edition 1 after the van v, as `alike` has them of edition 0, and a full block of them
+abbrev alikeOf1 : ℕ → ℕ → List Record
+alikeOf1 v zero = []
+alikeOf1 v (suc n) = inEdition1 (suc v) 5 1005 500 90001 1000 ∷ alikeOf1 (suc v) n
+
+abbrev fullBlockOf1 : List ℕ
+fullBlockOf1 = blockOf 1 0 (alikeOf1 0 20)
 
 -- an open depot that has taken so many blocks, with van 20 last, and remembers an edition
 abbrev taken : ℕ → ℕ → Depot
@@ -62,11 +70,16 @@ values =
     ∷ (answer (taken 1 1) (blockOf 0 1 (vanOf0 ∷ [])), row (some 21))
     ∷ (answer (taken 1 0) (blockOf 1 1 (vanOf0 ∷ [])), row (some 21))
     ∷ (answer (taken 1 0) (blockOf 2 1 (vanOf0 ∷ [])), row (some 15))
-    -- by the book: one of edition 0 and one of edition 1, and before the first block either
-    ∷ (row (bookRow (blockOf 0 0 (alike 0 20) ∷ []) (blockOf 1 1 (vanOf1 ∷ []))), row (some 21))
-    ∷ (row (bookRow (blockOf 0 0 (alike 0 20) ∷ []) (blockOf 0 1 (vanOf0 ∷ []))), row none)
+    -- by the book: each edition after each, and before the first block either
+    ∷ (row (bookRow (fullBlock ∷ []) (blockOf 0 1 (vanOf0 ∷ []))), row none)
+    ∷ (row (bookRow (fullBlock ∷ []) (blockOf 1 1 (vanOf1 ∷ []))), row (some 21))
+    ∷ (row (bookRow (fullBlockOf1 ∷ []) (blockOf 1 1 (vanOf1 ∷ []))), row none)
+    ∷ (row (bookRow (fullBlockOf1 ∷ []) (blockOf 0 1 (vanOf0 ∷ []))), row (some 21))
+    ∷ (row (bookRow [] (blockOf 0 0 sample)), row none)
     ∷ (row (bookRow [] (blockOf 1 0 sampleInEdition1)), row none)
-    -- a refused first block is not remembered: the sample is refused in edition 1 and then taken in edition 0
+    -- a refused block is not remembered: the state is as before, and the sample is taken in edition 0 after it
+    ∷ (left (loadOf fresh (blockOf 1 0 sample)), left (record { refusal = some 16; depot = fresh }))
+    ∷ (left (loadOf (taken 1 0) (blockOf 1 1 (vanOf1 ∷ []))), left (record { refusal = some 21; depot = taken 1 0 }))
     ∷ (answer (with fresh (blockOf 1 0 sample)) (blockOf 0 0 sample), row none)
     -- a state that remembers an edition that is none is fit, and refuses both; before the first block it takes both
     ∷ (test (isFitDepot (taken 1 7)), test true)

@@ -5,7 +5,7 @@ ghost use lib.ListN.{length};
 ghost use Rattle.io.specs.Counts.{Counts};
 ghost use Rattle.report.specs.Program.{gotOf, bytesIn, bytesRead, Decides};
 use super::awaited::Awaited;
-use super::awaited::Step;
+use super::awaited::Following;
 use blocks::judgement::BLOCK_BYTES;
 use libc::STDIN_FILENO;
 
@@ -31,7 +31,7 @@ enum Got {
 }
 
 // Reads block by block into a buffer with room for 206 of them, up to the end of the input, or up to and
-// with the first block that a depot does not take: one of the first 206 is, and whatever follows it
+// with the first block that a depot does not take, which is one of these 206. Whatever follows that block
 // changes nothing.
 pub(crate) fn read_blocks(buffer: &mut [u8]) -> Input
     requires { ⌜ 105472 ≤ length (now buffer) ⌝ }
@@ -47,7 +47,7 @@ pub(crate) fn read_blocks(buffer: &mut [u8]) -> Input
         if size < BLOCK_BYTES {
             return Input::Ended(count);
         }
-        let Step::Next(next) = awaited.after(&buffer[count - BLOCK_BYTES..count]) else {
+        let Following::Next(next) = awaited.after(&buffer[count - BLOCK_BYTES..count]) else {
             return Input::Decided(count);
         };
         awaited = next;

@@ -21,7 +21,7 @@ use Rattle.depot.proofs.Demand.{figures-bracketed}
 use Rattle.depot.proofs.Laws.Amounts.{part-amount}
 use Rattle.depot.proofs.Laws.Bracket.{IsSum, value-amount, round-sum}
 use Rattle.depot.proofs.Laws.Sequence.{sequence-more}
-use Rattle.depot.proofs.Laws.Reached.{stateOf, begun, IsReached, reached-empty, sums-bracketed, length-more, load-agrees, offered-reached, figures-agree}
+use Rattle.depot.proofs.Laws.Reached.{stateOf, begun, IsReached, reached-empty, sums-bracketed, length-more, load-agrees, next-reached, figures-agree}
 use Rattle.reporting.specs.Report.{closingBy, closingText, piecesOf, afterBlock, reportFrom, reportOf}
 use Rattle.reporting.specs.Demand.{IsPrinted, some-moved, none-moved, one-refused, ReportsHold}
 use Rattle.reporting.proofs.Laws.Pieces.{pieces-cut, pieces-bytes}
@@ -75,7 +75,7 @@ printed-from (piece ∷ pieces) book reached all are =
         → IsPrinted (book ++ (piece ∷ pieces)) (afterBlock row (length book) (reportFrom (stateOf (offered book piece)) (suc (length book)) pieces))
     go none is rest =
         rw (taken is, ← length-more book piece, ← append-assoc book (piece ∷ []) pieces)
-        (rest (rw (taken is) at (offered-reached book piece (are .0) reached)) (sequence-more book piece all is))
+        (rest (next-reached book piece (are .0) reached is) (sequence-more book piece all is))
     go (some row) is rest = one-refused book piece pieces row refl all is
 
 pub reports-hold : ReportsHold

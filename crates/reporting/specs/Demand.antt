@@ -1,4 +1,5 @@
--- Demand 3 carried to a report: what is printed is what the book of the input's pieces says; proofs/Demand has its proof.
+-- Demand 3 carried to a report: what is printed is what the book of the input's pieces says, and request E3 of two reports; proofs/Demand and
+-- proofs/Editions have the proofs.
 use mathlib.Core.Path.{_≡_}
 use mathlib.Core.Bool.{false}
 use mathlib.Core.List.{List, [], _∷_, _++_}
@@ -7,6 +8,7 @@ use Prim.Native.Nat.{ℕ, _≤_, _<_}
 use lib.ListN.{length}
 use Rattle.little_endian.specs.Bytes.{IsBytes}
 use Rattle.numbers.specs.declared.number.Number.{Number}
+use Rattle.blocks.specs.Block.{fieldsOf}
 use Rattle.depot.specs.Figures.{isParked, isOver, given}
 use Rattle.depot.specs.Depot.{isNegativeNumber}
 use Rattle.depot.specs.Book.{Book, vansOf, bookRow, IsSequence, countBy, movedCount, exactMean, vansFigures}
@@ -35,3 +37,9 @@ pub data IsPrinted (pieces : List (List ℕ)) : List ℕ → Type 0 where
 -- of every input of bytes
 unfoldable pub ReportsHold : Type 0
 ReportsHold = (input : List ℕ) → IsBytes input → AreCut input (piecesOf input) × IsPrinted (piecesOf input) (reportOf input)
+
+-- Request E3: "A depot's figures don't depend on its edition": two inputs, in whatever editions, whose pieces are all taken and whose vans have the same five
+-- fields print the same.
+unfoldable pub ReportEditionFree : Type 0
+ReportEditionFree = (x y : List ℕ) → IsBytes x → IsBytes y → IsSequence (piecesOf x) → IsSequence (piecesOf y)
+    → fieldsOf (vansOf (piecesOf x)) ≡ fieldsOf (vansOf (piecesOf y)) → reportOf x ≡ reportOf y

@@ -10,12 +10,12 @@ use Rattle.little_endian.specs.Bytes.{IsBytes}
 use Rattle.blocks.specs.Lists.{All}
 use Rattle.blocks.specs.Block.{recordsOf}
 use Rattle.depot.specs.Depot.{fresh, withBlock, Loaded, loadOf, loadingRow, loaded}
-use Rattle.depot.specs.Book.{Book, bookRow, addedBy, offered, IsTaken, IsSequence}
+use Rattle.depot.specs.Book.{Book, bookRow, IsTaken, IsSequence}
 use Rattle.depot.specs.declared.load.Load.{Load}
 use Rattle.depot.specs.declared.state.Depot.{Depot}
 use Rattle.depot.proofs.Laws.Room.{load-taken, blocks-few}
 use Rattle.depot.proofs.Laws.Vans.{records-more}
-use Rattle.depot.proofs.Laws.Reached.{stateOf, begun, IsReached, reached-empty, load-agrees, offered-reached}
+use Rattle.depot.proofs.Laws.Reached.{stateOf, begun, IsReached, reached-empty, load-agrees, next-reached, next-state}
 use Rattle.depot.proofs.Laws.Sequence.{first-taken}
 use Rattle.reporting.specs.Report.{refusedBlockText, piecesOf, afterBlock, reportFrom, reportOf}
 use Rattle.reporting.specs.Verdict.{verdictRow}
@@ -79,15 +79,12 @@ refused-decides k input rest e more = rw (pieces-append k input rest e) (behind-
 -- pieces that are all taken, and one behind them that is not
 refused-behind : (book before : Book) (piece : List ℕ) (behind : List (List ℕ)) (row : ℕ) → IsReached book → IsTaken book before → All IsBytes before
     → bookRow (book ++ before) piece ≡ some row → IsRefused (stateOf book) (before ++ (piece ∷ behind))
-unfolding offered addedBy
 refused-behind book [] piece behind row reached taken are e =
     here row (ap (λ (l : Loaded). l .refusal) (load-agrees book piece reached) ∙ rw append-nil at e)
 refused-behind book (block ∷ before) piece behind row reached taken are e =
     let first = first-taken book block before taken in
-    let added : offered book block ≡ book ++ (block ∷ []) = rw (first .0) in
-    let leads : loadOf (stateOf book) block .depot ≡ stateOf (book ++ (block ∷ [])) = ap (λ (l : Loaded). l .depot) (load-agrees book block reached) ∙ ap stateOf added in
-    let next = refused-behind (book ++ (block ∷ [])) before piece behind row (rw added at (offered-reached book block (are .0) reached)) (first .1) (are .1) (rw append-assoc e) in
-    let rest : IsRefused (loadOf (stateOf book) block .depot) (before ++ (piece ∷ behind)) = rw leads next in
+    let next = refused-behind (book ++ (block ∷ [])) before piece behind row (next-reached book block (are .0) reached (first .0)) (first .1) (are .1) (rw append-assoc e) in
+    let rest : IsRefused (loadOf (stateOf book) block .depot) (before ++ (piece ∷ behind)) = rw (next-state book block reached (first .0)) next in
     later rest
 
 -- An input of whole blocks, all taken but the last, prints the same whatever follows.

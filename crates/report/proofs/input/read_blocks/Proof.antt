@@ -1,12 +1,12 @@
 -- `report::input::read_blocks` meets its contract. The invariant: the bytes read are whole blocks, all taken. The measure is what is left of the buffer.
-use mathlib.Core.Path.{_≡_, refl, _∙_}
+use mathlib.Core.Path.{_≡_, refl}
 use Prim.Native.Nat.{_+_, _-_, _≤_}
 use native.Mathlib.Omega.{arith}
 use lib.ListN.{length}
 use borrow.Author.Needs.{needs}
 use Rattle.report.specs.Program.{bytesRead, LeadsTo, Decides}
 use Rattle.report.proofs.Laws.Got.{counts}
-use Rattle.report.proofs.Laws.Awaited.{awaits-room}
+use Rattle.report.proofs.Laws.Awaited.{awaits-due}
 use Rattle.report.proofs.Laws.Read.{AreRead, none-read, after-length, block-read, one-more, block-decides, full-decides, part-size, size-most}
 use Rattle.report.proofs.input.read_blocks.Statement.{statement}
 use Rattle.report.proofs.input.read_blocks.Tie as tie
@@ -41,7 +41,7 @@ returns-2 c =
     (counts _ _ (omega (arith, buffer .buffer .given .1, most sized, buffer .before .before .before .loop-test .taken)), tt)
 
 after-requires : tie.Need-after-requires Inv-loop μ-loop
-after-requires c κs = let loop = c .before .before .before .before .before .before .before .before .before .before .before in awaits-room _ _ (loop .loop .inv .awaits)
+after-requires c κs = let loop = c .before .before .before .before .before .before .before .before .before .before .before in awaits-due _ _ (loop .loop .inv .awaits)
 
 -- a whole block was read behind the others
 module _ (c : tie.Else1 Inv-loop μ-loop) where

@@ -1,4 +1,4 @@
--- Demand 3, whole, from the theorems on division, on lists of calls and on reports.
+-- Demand 3, whole, from the theorems on division, on lists of calls, on editions and on reports.
 use Rattle.steps.proofs.Theorem.{division}
 use Rattle.depot.proofs.Demand.{calls-hold, runs-hold}
 use Rattle.depot.proofs.Editions.{edition-free}
@@ -12,6 +12,6 @@ demand-3 = record {
   depot = calls-hold;
   entries = runs-hold;
   editions = edition-free;
-  reports = reports-hold;
   report-editions = report-edition-free;
+  reports = reports-hold;
 }

@@ -13,7 +13,7 @@ pub record Demand3 : Type 0 where
   pub entries : RunsHold
   -- request E3: the counts, sums and figures do not depend on the editions of the blocks
   pub editions : EditionFree
+  -- nor does what is printed
+  pub report-editions : ReportEditionFree
   -- what the report of any input prints is what the book says, and its figures bracket the exact mean
   pub reports : ReportsHold
-  -- nor does what is printed depend on the editions
-  pub report-editions : ReportEditionFree

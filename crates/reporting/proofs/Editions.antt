@@ -9,7 +9,7 @@ use Rattle.blocks.specs.Block.{fieldsOf}
 use Rattle.depot.specs.Figures.{Figures, given, refused}
 use Rattle.depot.specs.Depot.{fresh, Loaded, loadOf, figuresOf}
 use Rattle.depot.specs.Book.{Book, vansOf, IsTaken, IsSequence}
-use Rattle.depot.specs.Calls.{depotAfter, bookAfter}
+use Rattle.depot.specs.Calls.{Call, depotAfter, bookAfter}
 use Rattle.depot.specs.Demand.{SameFigures, EditionFree}
 use Rattle.depot.specs.declared.state.Depot.{Depot}
 use Rattle.depot.proofs.Editions.{edition-free}
@@ -33,6 +33,7 @@ taken-closes (piece ∷ pieces) are book position reached taken =
     rw (next-state book piece reached (first .0)) next in
     rw row rest
 
+-- which its counts and figures decide
 same-closing : (s t : Depot) → SameFigures s t → closingText s ≡ closingText t
 unfolding closingText closingBy
 same-closing s t same = rw (same .figures) (go (figuresOf t))
@@ -41,23 +42,23 @@ same-closing s t same = rw (same .figures) (go (figuresOf t))
     go (given low high) = rw (same .moved, same .parked, same .over)
     go (refused row) = refl
 
+-- an input whose pieces are all taken: the calls that offer them, its text, and its book
 module _ (input : List ℕ) (are : IsBytes input) (all : IsSequence (piecesOf input)) where
-  abbrev pieces : List (List ℕ)
-  pieces = piecesOf input
+  abbrev calls : List Call
+  calls = offers (piecesOf input) (pieces-bytes input are)
 
-  pub closes-with : reportOf input ≡ closingText (depotAfter fresh (offers pieces (pieces-bytes input are)))
+  closes-with : reportOf input ≡ closingText (depotAfter fresh calls)
   unfolding reportOf IsSequence
-  closes-with = rw (← begun) (taken-closes pieces (pieces-bytes input are) [] 0 reached-empty all)
+  closes-with = rw (← begun) (taken-closes (piecesOf input) (pieces-bytes input are) [] 0 reached-empty all)
 
-  pub book-is : bookAfter [] (offers pieces (pieces-bytes input are)) ≡ pieces
+  book-is : bookAfter [] calls ≡ piecesOf input
   unfolding IsSequence IsTaken
-  book-is = sym (book-of-calls pieces (pieces-bytes input are) []) ∙ all
+  book-is = sym (book-of-calls (piecesOf input) (pieces-bytes input are) []) ∙ all
 
 pub report-edition-free : ReportEditionFree
 unfolding ReportEditionFree EditionFree
 report-edition-free x y bytes-x bytes-y all-x all-y same =
-    let alike : fieldsOf (vansOf (bookAfter [] (offers (piecesOf x) (pieces-bytes x bytes-x)))) ≡ fieldsOf (vansOf (bookAfter [] (offers (piecesOf y) (pieces-bytes y bytes-y)))) =
-    rw (book-is x bytes-x all-x, book-is y bytes-y all-y) same in
-    closes-with x bytes-x all-x
-    ∙ same-closing _ _ (edition-free (offers (piecesOf x) (pieces-bytes x bytes-x)) (offers (piecesOf y) (pieces-bytes y bytes-y)) alike)
-    ∙ sym (closes-with y bytes-y all-y)
+    let xs = calls x bytes-x all-x in
+    let ys = calls y bytes-y all-y in
+    let alike : fieldsOf (vansOf (bookAfter [] xs)) ≡ fieldsOf (vansOf (bookAfter [] ys)) = rw (book-is x bytes-x all-x, book-is y bytes-y all-y) same in
+    closes-with x bytes-x all-x ∙ same-closing (depotAfter fresh xs) (depotAfter fresh ys) (edition-free xs ys alike) ∙ sym (closes-with y bytes-y all-y)

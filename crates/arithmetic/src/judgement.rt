@@ -5,7 +5,7 @@ use numbers::number::{Number, is_working};
 use numbers::task::is_precision;
 
 // The lowest row from 2 to 4 that applies, its number in the comment, or that none does.
-#[derive(Drop)]
+#[derive(Clone, Copy)]
 pub(crate) enum Judgement {
     Fit,
     BadPrecision, // 2

@@ -1,5 +1,7 @@
 // The exact sum, difference and product of two numbers, and a number by itself, each rounded once by
 // the caller's task. What is public stands in `operation`.
+#![tactic(auto)]
+
 mod judgement;
 mod magnitude;
 mod operand;

@@ -12,7 +12,7 @@ use numbers::number::Number;
 const BIAS: i32 = 65_535;
 
 // sign × significand × 2^(exponent − 65,598).
-#[derive(Drop)]
+#[derive(Clone, Copy)]
 pub(crate) struct Operand {
     pub negative: bool,
     pub exponent: u32,

@@ -69,7 +69,7 @@ pub fn multiply(a: Number, b: Number, code: u32, precision: u32) -> Answer
 }
 
 // An operation on two numbers.
-#[derive(Drop)]
+#[derive(Clone, Copy)]
 pub enum Operation {
     Sum,
     Difference,

@@ -14,7 +14,7 @@ use numbers::words::Cell;
 const LAST_BIT: i32 = 131_196;
 
 // A sign, an exponent, a magnitude in two words, and whether something nonzero lies below its last bit.
-#[derive(Drop)]
+#[derive(Clone, Copy)]
 pub(crate) struct Exact {
     pub negative: bool,
     pub exponent: u32,

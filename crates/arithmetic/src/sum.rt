@@ -97,7 +97,7 @@ fn aligned(large: Operand, small: Operand) -> Exact
 }
 
 // Two operands, the larger one first.
-#[derive(Drop)]
+#[derive(Clone, Copy)]
 struct Ordered {
     large: Operand,
     small: Operand,

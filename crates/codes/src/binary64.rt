@@ -11,7 +11,7 @@ use super::pack::{Packing, pack, sign_bit};
 use numbers::number::Number;
 
 // The bits of a code: the fraction, above it the exponent field, and the sign.
-#[derive(Drop)]
+#[derive(Clone, Copy)]
 pub struct Binary64 {
     pub bits: u64,
 }

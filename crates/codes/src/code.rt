@@ -3,7 +3,7 @@ use numbers::number::Number;
 
 // The constants of a format: its length in bytes, the bits of its significands and those that a code
 // stores, the bias, and the lowest and the highest exponent of its normal numbers.
-#[derive(Drop)]
+#[derive(Clone, Copy)]
 pub(crate) struct Format {
     pub length: usize,
     pub precision: u32,
@@ -14,7 +14,7 @@ pub(crate) struct Format {
 }
 
 // A code taken apart. The significand has its leading one, stored or not.
-#[derive(Drop)]
+#[derive(Clone, Copy)]
 pub(crate) struct Code {
     pub negative: bool,
     pub field: u32,
@@ -22,7 +22,7 @@ pub(crate) struct Code {
 }
 
 // What a code stands for: the number, or the row of document 01's table that refused.
-#[derive(Drop)]
+#[derive(Clone, Copy)]
 pub enum Decoding {
     Given(Number),
     AllOnes, // 10
@@ -30,7 +30,7 @@ pub enum Decoding {
 }
 
 // What reading answers: the number, or the row of document 01's table that refused.
-#[derive(Drop)]
+#[derive(Clone, Copy)]
 pub enum Reading {
     Given(Number),
     WrongLength, // 9
@@ -39,7 +39,7 @@ pub enum Reading {
 }
 
 // What writing answers: that the code is written, or the row of document 01's table that refused.
-#[derive(Drop)]
+#[derive(Clone, Copy)]
 pub enum Writing {
     Written,
     Unfit, // 3

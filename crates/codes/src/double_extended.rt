@@ -11,7 +11,7 @@ use super::pack::{Packing, pack, sign_bit};
 use numbers::number::Number;
 
 // The bits of a code: the significand, and above it the exponent field and the sign.
-#[derive(Drop)]
+#[derive(Clone, Copy)]
 pub struct DoubleExtended {
     pub upper: u16,
     pub significand: u64,

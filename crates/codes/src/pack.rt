@@ -9,7 +9,7 @@ use numbers::number::{Number, is_working};
 use numbers::words::cut;
 
 // The code to write, or the refusal.
-#[derive(Drop)]
+#[derive(Clone, Copy)]
 pub(crate) enum Packing {
     Code(Code),
     Refused(Writing),
@@ -68,7 +68,7 @@ fn equal_code(x: Number, format: Format) -> Packing
 }
 
 // The field of an exponent, and how far the exponent lies below the lowest one.
-#[derive(Drop)]
+#[derive(Clone, Copy)]
 struct Place {
     field: u32,
     below: u32,

@@ -13,7 +13,7 @@ use numbers::number::Number;
 
 // What asking for figures answers: the low and the high one, or the row of document 01's table that
 // refuses, the number in each comment.
-#[derive(Drop)]
+#[derive(Clone, Copy)]
 pub enum Bracket {
     Given { low: Number, high: Number },
     Unfit, // 3

@@ -17,7 +17,7 @@ const HIGHEST_SUM: i32 = 64;
 // What a depot has taken: how many blocks, whether one of them closed it, the last van and the edition
 // that is remembered (0 in a fresh depot), how many vans moved, were parked and were over, and the sums of
 // the rates, rounded down and up.
-#[derive(Drop)]
+#[derive(Clone, Copy)]
 pub struct Depot {
     pub blocks: u32,
     pub closed: bool,

@@ -3,7 +3,7 @@
 use numbers::answer::Accuracy;
 use numbers::number::Number;
 
-#[derive(Drop)]
+#[derive(Clone, Copy)]
 pub enum Quotient {
     Given(Number, Accuracy),
     UnknownMode, // 1

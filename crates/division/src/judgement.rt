@@ -11,7 +11,7 @@ use numbers::task::is_precision;
 const LAST_CODE: u32 = 5;
 
 // The lowest row from 1 to 5 that applies, its number in the comment, or that none does.
-#[derive(Drop)]
+#[derive(Clone, Copy)]
 pub enum Judgement {
     Divisible,
     UnknownMode, // 1

@@ -38,14 +38,14 @@ const LOW_PART: u64 = 0x400;
 const LOW_PART_PLACE: u64 = 0x40_0000_0000_0000;
 
 // A quotient digit, and the remainder after it.
-#[derive(Drop)]
+#[derive(Clone, Copy)]
 pub(crate) struct Digit {
     pub value: u64,
     pub remainder: u64,
 }
 
 // 82 bits of a quotient, the first of which may be 0, in two words, and the remainder after them.
-#[derive(Drop)]
+#[derive(Clone, Copy)]
 pub(crate) struct Digits {
     pub high: u64,
     pub low: u64,

@@ -21,7 +21,7 @@ pub(crate) const WRONG_LENGTH: u32 = 9;
 pub(crate) const NO_NUMBER: u32 = 64;
 
 // The two operands of a call, or why there are none.
-#[derive(Drop)]
+#[derive(Clone, Copy)]
 pub(crate) enum Operands {
     Numbers(Number, Number),
     WrongLength,
@@ -53,7 +53,7 @@ pub(crate) fn operands_in(a: &[u8], b: &[u8], room: usize) -> Operands
 }
 
 // What an operation comes to: the number with its accuracy, or the row of document 01's table that refused.
-#[derive(Drop)]
+#[derive(Clone, Copy)]
 pub(crate) enum Outcome {
     Given(Number, Accuracy),
     Refused(u32),

@@ -18,7 +18,7 @@ const FOUR_BYTES: u64 = 0x1_0000_0000;
 const NEGATIVE: u64 = 0x8000_0000;
 
 // What reading sixteen bytes answers.
-#[derive(Drop)]
+#[derive(Clone, Copy)]
 pub(crate) enum Reading {
     Given(Number),
     NoNumber,
@@ -89,7 +89,7 @@ fn kind_of(negative: bool) -> u64
 }
 
 // The sixteen bytes of a number, as two words.
-#[derive(Drop)]
+#[derive(Clone, Copy)]
 struct Words {
     significand: u64,
     upper: u64,

@@ -3,6 +3,8 @@
 // where that lies below, at or above the exact one; or it answers a refusal and has left both as they
 // were: 1 to 8 for the row of document 01's table, 9 where a buffer has not sixteen bytes, 64 where the
 // bytes of an operand are no number.
+#![tactic(auto)]
+
 ghost use Rattle.std.specs.Prelude.{◌≡◌};
 ghost use Rattle.numbers.specs.Accuracy.{marked};
 ghost use Rattle.numbers.specs.Fraction.{value, sum, difference, product, quotient};

@@ -1,4 +1,6 @@
 // The writer of blocks for programs in other languages.
+#![tactic(auto)]
+
 ghost use Rattle.std.specs.Prelude.{◌≡◌};
 ghost use Rattle.writing.specs.Written.{block_writing_row, block_writing_of};
 ghost use Rattle.export_blocks.specs.Calls.{row_of_number, call};

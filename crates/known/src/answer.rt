@@ -9,7 +9,7 @@ use numbers::number::Number;
 use steps::answer::Step;
 
 // A number with its accuracy, a number alone, or the row that refused.
-#[derive(Drop)]
+#[derive(Clone, Copy)]
 pub enum Outcome {
     Marked(Number, Accuracy),
     Given(Number),

@@ -5,7 +5,7 @@ use lines::{line, number};
 use numbers::number::Number;
 
 // The arguments of a line.
-#[derive(Drop)]
+#[derive(Clone, Copy)]
 pub enum Arguments {
     Read {
         code: u32,

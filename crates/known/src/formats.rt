@@ -9,14 +9,14 @@ use lines::{buffer, line, number};
 use numbers::number::Number;
 
 // The format of a case.
-#[derive(Drop)]
+#[derive(Clone, Copy)]
 pub enum Format {
     DoubleExtended,
     Binary64,
 }
 
 // What a case calls.
-#[derive(Drop)]
+#[derive(Clone, Copy)]
 pub enum Entry {
     Read(Format),
     Write(Format),

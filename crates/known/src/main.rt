@@ -1,5 +1,7 @@
 // Runs the cases that stand on standard input, one to a line of 80 bytes, and prints an answer line
 // for each. The input ends where no whole line is left.
+#![tactic(auto)]
+
 mod answer;
 mod arguments;
 mod cases;

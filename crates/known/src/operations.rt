@@ -9,7 +9,7 @@ use lines::line::{Cursor, Line, Place};
 use numbers::number::Number;
 
 // Which of the four entries a case calls.
-#[derive(Drop)]
+#[derive(Clone, Copy)]
 pub enum Operation {
     Add,
     Subtract,

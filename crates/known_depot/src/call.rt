@@ -8,7 +8,7 @@ use lines::line::{Cursor, Line, Place, Word};
 
 // What a line asks for: that a state stands in the depot's place, that the block of so many bytes
 // behind the line is loaded, that the figures are told, or the rate of fuel over a distance.
-#[derive(Drop)]
+#[derive(Clone, Copy)]
 pub enum Call {
     HandIn(Depot),
     Load(u32),

@@ -1,5 +1,7 @@
 // Makes the calls of a depot that stand on standard input, one to a line of 80 bytes, and prints for
 // each its answer and the whole state that it leaves. The input ends where no whole line is left.
+#![tactic(auto)]
+
 mod answer;
 mod call;
 mod run;
@@ -9,7 +11,7 @@ use depot::state::Depot;
 use lines::line;
 
 // What reading and running a line leaves.
-#[derive(Drop)]
+#[derive(Clone, Copy)]
 enum Turn {
     Next(Depot),
     Ended,

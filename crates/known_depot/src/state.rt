@@ -7,14 +7,14 @@ use lines::number::Operand;
 use lines::{line, number, out};
 
 // A state of a line.
-#[derive(Drop)]
+#[derive(Clone, Copy)]
 pub enum State {
     Read { depot: Depot, end: Cursor },
     Unreadable,
 }
 
 // Whether a depot is closed.
-#[derive(Drop)]
+#[derive(Clone, Copy)]
 enum Closed {
     Read { value: bool, next: Cursor },
     Unreadable,

@@ -6,7 +6,7 @@ use lines::line::{Cursor, Line, Place, Word};
 // What a line asks for: that so many numbers behind the line are the list, an edition, that the first
 // numbers of the list are written into an output of so many bytes, or that what the output holds is
 // loaded.
-#[derive(Drop)]
+#[derive(Clone, Copy)]
 pub enum Call {
     List(u32),
     Edition(u32),

@@ -2,7 +2,7 @@
 use libc::STDIN_FILENO;
 
 // The next number of the input, or that it ended before.
-#[derive(Drop)]
+#[derive(Clone, Copy)]
 enum Next {
     Number(u32),
     Ended,

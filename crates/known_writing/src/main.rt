@@ -1,5 +1,7 @@
 // Makes the calls of the writer of blocks that stand on standard input, one to a line of 80 bytes, and
 // prints what each answers and leaves. The input ends where no whole line is left.
+#![tactic(auto)]
+
 ghost use Rattle.std.specs.Prelude.{◌≤◌};
 
 mod answer;
@@ -20,7 +22,7 @@ const MOST_NUMBERS: usize = 20_500;
 const MOST_BYTES: usize = 106_496;
 
 // What reading and running a line leaves.
-#[derive(Drop)]
+#[derive(Clone, Copy)]
 struct Turn {
     ended: bool,
     state: State,

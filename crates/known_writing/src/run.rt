@@ -6,7 +6,7 @@ use super::{answer, list, load, output};
 use writing::writer::write_blocks;
 
 // How many numbers the list has, how many bytes the output, and the edition that is asked for.
-#[derive(Drop)]
+#[derive(Clone, Copy)]
 pub struct State {
     pub numbers: usize,
     pub bytes: usize,

@@ -9,7 +9,7 @@ use super::{line, out};
 pub const MOST: usize = 16;
 
 // A buffer of a line: its bytes, how many there are, and the place past them.
-#[derive(Drop)]
+#[derive(Clone, Copy)]
 pub struct Buffer {
     pub bytes: [u8; MOST],
     pub length: usize,
@@ -17,7 +17,7 @@ pub struct Buffer {
 }
 
 // A byte of a line.
-#[derive(Drop)]
+#[derive(Clone, Copy)]
 enum Byte {
     Read { value: u8, next: Cursor },
     Unreadable,

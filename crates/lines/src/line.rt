@@ -10,27 +10,27 @@ pub type Line = [u8; WIDTH];
 const LARGEST: u64 = 0xffff_ffff;
 
 // A place in a line.
-#[derive(Drop)]
+#[derive(Clone, Copy)]
 pub struct Cursor {
     pub at: usize,
 }
 
 // The place past some bytes, or that other bytes stand there.
-#[derive(Drop)]
+#[derive(Clone, Copy)]
 pub enum Place {
     Past(Cursor),
     Other,
 }
 
 // A whole number of a line.
-#[derive(Drop)]
+#[derive(Clone, Copy)]
 pub enum Whole {
     Read { value: u64, next: Cursor },
     Unreadable,
 }
 
 // A whole number below 2^32.
-#[derive(Drop)]
+#[derive(Clone, Copy)]
 pub enum Word {
     Read { value: u32, next: Cursor },
     Unreadable,

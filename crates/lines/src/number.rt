@@ -6,14 +6,14 @@ use numbers::answer::Accuracy;
 use numbers::number::Number;
 
 // An exponent of a line.
-#[derive(Drop)]
+#[derive(Clone, Copy)]
 enum Exponent {
     Read { value: i32, next: Cursor },
     Unreadable,
 }
 
 // An operand of a line.
-#[derive(Drop)]
+#[derive(Clone, Copy)]
 pub enum Operand {
     Read { value: Number, next: Cursor },
     Unreadable,

@@ -1,4 +1,6 @@
 // Whole numbers in bytes, the lowest byte first.
+#![tactic(auto)]
+
 ghost use Rattle.std.specs.Prelude.{◌≡◌, ◌%◌, ◌^◌, length};
 ghost use Rattle.little_endian.specs.Bytes.{little_endian, bytes_of};
 

@@ -3,7 +3,7 @@ use super::number::Number;
 
 // Where a result lies, seen from the true value: below it, at it or above it. Signs count, so −1/4 lies
 // above −1/3.
-#[derive(Drop)]
+#[derive(Clone, Copy)]
 pub enum Accuracy {
     Below,
     Exact,
@@ -11,7 +11,7 @@ pub enum Accuracy {
 }
 
 // The number with its accuracy, or the row of document 01's table that refused: the number in each comment.
-#[derive(Drop)]
+#[derive(Clone, Copy)]
 pub enum Answer {
     Given(Number, Accuracy),
     UnknownMode, // 1

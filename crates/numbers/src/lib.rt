@@ -1,5 +1,7 @@
 // Numbers of 64 significant bits, which of them are fit, the tasks that round them, what an operation
 // on them answers, and the rounding of a value that is known to two words.
+#![tactic(auto)]
+
 pub mod answer;
 mod decision;
 pub mod number;

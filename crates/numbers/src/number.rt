@@ -3,7 +3,7 @@ ghost use Rattle.std.specs.Prelude.{◌≡◌};
 ghost use Rattle.numbers.specs.Number.{is_between, is_fit, is_working, is_admissible, negated};
 
 // Zero, or a sign, an exponent and a significand: sign × significand × 2^(exponent − 63).
-#[derive(Drop)]
+#[derive(Clone, Copy)]
 pub enum Number {
     Zero,
     Finite {

@@ -6,7 +6,7 @@ ghost use Rattle.numbers.specs.Rounding.{task_of, precision_of, is_precision};
 const LARGEST_PRECISION: u32 = 64;
 
 // How a value between two numbers is rounded: the mode codes 0 to 5.
-#[derive(Drop)]
+#[derive(Clone, Copy)]
 pub enum Mode {
     Trunc,
     Away,
@@ -17,20 +17,20 @@ pub enum Mode {
 }
 
 // A rounding mode with a precision.
-#[derive(Drop)]
+#[derive(Clone, Copy)]
 pub struct Rounding {
     pub mode: Mode,
     pub precision: u32,
 }
 
 // An exactness claim: the value has at most this many significant bits.
-#[derive(Drop)]
+#[derive(Clone, Copy)]
 pub struct Claim {
     pub precision: u32,
 }
 
 // The task of a step.
-#[derive(Drop)]
+#[derive(Clone, Copy)]
 pub enum Task {
     Round(Rounding),
     Exact(Claim),

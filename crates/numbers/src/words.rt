@@ -3,7 +3,7 @@ ghost use Rattle.std.specs.Prelude.{◌≡◌, ◌*◌, ◌/◌, ◌%◌, ◌^�
 ghost use Rattle.numbers.specs.Cell.{wide};
 
 // One word, and whether something nonzero lies below its last bit.
-#[derive(Drop)]
+#[derive(Clone, Copy)]
 pub struct Part {
     pub value: u64,
     pub rest: bool,
@@ -32,14 +32,14 @@ pub fn cut(a: u64, by: u32) -> Part
 }
 
 // A magnitude of 128 bits in two words: high × 2^64 + low.
-#[derive(Drop)]
+#[derive(Clone, Copy)]
 pub struct Words {
     pub high: u64,
     pub low: u64,
 }
 
 // A magnitude, and whether something nonzero lies below its last bit.
-#[derive(Drop)]
+#[derive(Clone, Copy)]
 pub struct Cell {
     pub high: u64,
     pub low: u64,

@@ -8,7 +8,7 @@ use blocks::judgement::BLOCK_BYTES;
 use libc::STDIN_FILENO;
 
 // How many bytes were read: all of the input, or as many as decide what is printed; or that a read failed.
-#[derive(Drop)]
+#[derive(Clone, Copy)]
 pub enum Input {
     Ended(usize),
     Decided(usize),
@@ -17,14 +17,14 @@ pub enum Input {
 
 // How many bytes of a piece were read, fewer than were asked for only at the end of the input; or that a
 // read failed.
-#[derive(Drop)]
+#[derive(Clone, Copy)]
 enum Piece {
     Read(usize),
     Failed,
 }
 
 // What one read brought: so many bytes, the end of the input, or a failure.
-#[derive(Drop)]
+#[derive(Clone, Copy)]
 enum Got {
     Bytes(usize),
     End,

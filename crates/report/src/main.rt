@@ -1,5 +1,7 @@
 // The report program: it reads blocks from standard input and prints their report, `report_of` of the
 // bytes that were read.
+#![tactic(auto)]
+
 mod awaited;
 mod input;
 mod output;

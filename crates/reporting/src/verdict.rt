@@ -6,7 +6,7 @@ ghost use Rattle.reporting.specs.Verdict.{verdict_row};
 use depot::load::Loading;
 
 // Whether a block was taken, or the number of the row that refused it.
-#[derive(Drop)]
+#[derive(Clone, Copy)]
 pub enum Verdict {
     Taken,
     Refused(u32),

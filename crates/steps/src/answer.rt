@@ -2,7 +2,7 @@
 // comment. 7 and 8 are of a step that fails its claim; that none ever does is a theorem.
 use numbers::number::Number;
 
-#[derive(Drop)]
+#[derive(Clone, Copy)]
 pub enum Step {
     Given(Number),
     UnknownMode, // 1

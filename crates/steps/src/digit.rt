@@ -18,7 +18,7 @@ use numbers::number::Number;
 use numbers::task::Task;
 
 // What the digits need of a divisor: its reciprocal and its two halves, steps 6 to 8.
-#[derive(Drop)]
+#[derive(Clone, Copy)]
 pub(crate) struct Divisor {
     pub reciprocal: Answer,
     pub high: Answer,

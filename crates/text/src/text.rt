@@ -7,7 +7,7 @@ ghost use Rattle.text.specs.Text.{text_of, cut};
 pub const CAPACITY: usize = 192;
 
 // The bytes before `length` are the text; those behind it mean nothing.
-#[derive(Drop)]
+#[derive(Clone, Copy)]
 pub struct Text {
     pub bytes: [u8; CAPACITY],
     pub length: usize,

@@ -20,7 +20,7 @@ use Rattle.numbers.proofs.Laws.Pairs.{signed_pair, scaled_pair, split_pair, at_m
 use Rattle.numbers.proofs.Laws.Scaled.{scaled_fraction, same_power}
 use Rattle.numbers.proofs.Laws.Signs.{abs_signed, abs_zero, signed_abs, signed_zero, negative_signed}
 use Rattle.numbers.proofs.Laws.Splits.{sub_split}
-use Rattle.numbers.proofs.Laws.Whole.{cell_of, cell_low}
+use Rattle.numbers.proofs.Laws.Whole.{cell_of_is, cell_low}
 
 -- ---- one cell
 
@@ -132,7 +132,7 @@ abbrev rest_of : ℕ → ℕ → Fraction → Bool
 rest_of i o x = ltb 0 (nat_abs x.numerator * 2 ^ o % (x.denominator * 2 ^ i))
 
 own_cell : (i o : ℕ) (x : Fraction) → IsFraction x → HasCell x i o (cell_of i o x) (rest_of i o x)
-own_cell i o x x0 = cell_of (nat_abs x.numerator * 2 ^ o) (x.denominator * 2 ^ i) (mul-pos x0 (pow_pos i))
+own_cell i o x x0 = cell_of_is (nat_abs x.numerator * 2 ^ o) (x.denominator * 2 ^ i) (mul-pos x0 (pow_pos i))
 
 pub own_sign : (x : Fraction) → HasSign (is_negative x.numerator) x
 own_sign x = sym (signed_abs x.numerator)

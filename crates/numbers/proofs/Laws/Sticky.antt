@@ -23,7 +23,7 @@ use Rattle.numbers.proofs.Laws.Exponent.{exponent_reaches, scaled_positive}
 use Rattle.numbers.proofs.Laws.Powers.{power_product, up_power, down_power, pow_below}
 use Rattle.numbers.proofs.Laws.Rounded.{exponent, numerator_at, denominator_at, round_units}
 use Rattle.numbers.proofs.Laws.Scaled.{scaled_fraction, signed_scaled, value_fraction}
-use Rattle.numbers.proofs.Laws.Whole.{cell_of}
+use Rattle.numbers.proofs.Laws.Whole.{cell_of_is}
 
 -- the odd one of q and q + 1 is what sticky makes of q and a fraction
 whole_odd : (s : Bool) (a b : ℕ) → 0 < a % b → whole_of Sticky s a b ≡ odd_of (a / b)
@@ -84,7 +84,7 @@ module _ (i o n : ℕ) (x : Fraction) (x0 : IsFraction x) (n0 : 1 ≤ n) (n1 : n
       cell : HasCell x a c q true
       cell =
           rw (← u, ← v) (cell_ratio true (numerator_at n x) q (denominator_at x) _ _ 1 1 (lit< tt) (lit< tt) (omega arith) (omega arith)
-          (rw (lt-ltb 0 (numerator_at n x % denominator_at x) rest) at (cell_of (numerator_at n x) (denominator_at x) (scaled_positive (exponent x) x.denominator x0))))
+          (rw (lt-ltb 0 (numerator_at n x % denominator_at x) rest) at (cell_of_is (numerator_at n x) (denominator_at x) (scaled_positive (exponent x) x.denominator x0))))
 
   -- The sticky rounding of a fraction below 2^(n − 1) grids is alike to it.
   pub sticky_alike : Alike i o (value (round Sticky n x)) x

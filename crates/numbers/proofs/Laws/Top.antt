@@ -30,7 +30,7 @@ use Rattle.numbers.proofs.Laws.Signs.{abs_signed, negative_signed}
 use Rattle.numbers.proofs.Laws.Tasks.{round_scaled}
 use Rattle.numbers.proofs.Laws.Tests.{zero_same}
 use Rattle.numbers.proofs.Laws.Value.{whole_alone, fraction_alone}
-use Rattle.numbers.proofs.Laws.Whole.{whole_cell, fraction_cell, flagged, cell_of}
+use Rattle.numbers.proofs.Laws.Whole.{whole_cell, fraction_cell, flagged, cell_of_is}
 
 -- 2^(128 - n) is a word above 2^(64 - n)
 pub word_above : (n : ℕ) → n ≤ 64 → 2 ^ (64 - n) * 2 ^ 64 ≡ 2 ^ (128 - n)
@@ -53,7 +53,7 @@ module _ (F n high low : ℕ) (rest : Bool) (n1 : n ≤ 64) (word : low < 2 ^ 64
   cell =
       cell_ratio rest F (wide high low) (2 ^ (64 - n)) (F * (2 * 2 ^ 63)) (2 ^ (128 - n)) (2 ^ 64) 1 (pow_pos 64) (pow_pos 0) (sym (mul-one (F * (2 * 2 ^ 63))))
       (word_above n n1 ∙ sym (mul-one (2 ^ (128 - n))))
-      (rw (shifted, dropped) (cell_of F (2 ^ (64 - n)) (pow_pos (64 - n))))
+      (rw (shifted, dropped) (cell_of_is F (2 ^ (64 - n)) (pow_pos (64 - n))))
 
   upper : wide high low / 2 ^ 64 ≡ high
   unfolding wide

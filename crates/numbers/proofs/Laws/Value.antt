@@ -16,23 +16,23 @@ use Rattle.numbers.specs.declared.task.Mode.{Mode}
 use Rattle.numbers.specs.declared.task.Task.{Task}
 use Rattle.numbers.specs.declared.task.Task.TheVariants.{Round, Exact}
 use Rattle.numbers.proofs.Laws.Cell.{cell_ratio, same_cell, one_outcome}
-use Rattle.numbers.proofs.Laws.Whole.{cell_of, whole_cell, fraction_cell}
+use Rattle.numbers.proofs.Laws.Whole.{cell_of_is, whole_cell, fraction_cell}
 use Rattle.numbers.proofs.Laws.Fractions.{equal_magnitudes, equal_signs}
 use Rattle.numbers.proofs.Laws.Powers.{below_power}
 
 -- what a / b is made a whole number to, and whether it is one, depend on the quotient alone
 module _ (a b c d : ℕ) (b0 : 0 < b) (d0 : 0 < d) (same : a * d ≡ c * b) where
   one_cell : InCell (ltb 0 (a * (2 * 1) % b)) (c * (2 * 1)) (a * (2 * 1) / b) d
-  one_cell = cell_ratio (ltb 0 (a * (2 * 1) % b)) (a * (2 * 1)) (a * (2 * 1) / b) b (c * (2 * 1)) d d b d0 b0 (omega arith) (omega arith) (cell_of (a * (2 * 1)) b b0)
+  one_cell = cell_ratio (ltb 0 (a * (2 * 1) % b)) (a * (2 * 1)) (a * (2 * 1) / b) b (c * (2 * 1)) d d b d0 b0 (omega arith) (omega arith) (cell_of_is (a * (2 * 1)) b b0)
 
   pub whole_alone : (mode : Mode) (negative : Bool) → whole_of mode negative a b ≡ whole_of mode negative c d
   whole_alone mode negative =
-      whole_cell (ltb 0 (a * (2 * 1) % b)) a b (a * (2 * 1) / b) 1 b0 (lit< tt) (cell_of (a * (2 * 1)) b b0) mode negative
+      whole_cell (ltb 0 (a * (2 * 1) % b)) a b (a * (2 * 1) / b) 1 b0 (lit< tt) (cell_of_is (a * (2 * 1)) b b0) mode negative
       ∙ sym (whole_cell (ltb 0 (a * (2 * 1) % b)) c d (a * (2 * 1) / b) 1 d0 (lit< tt) one_cell mode negative)
 
   pub fraction_alone : ltb 0 (a % b) ≡ ltb 0 (c % d)
   fraction_alone =
-      fraction_cell (ltb 0 (a * (2 * 1) % b)) a b (a * (2 * 1) / b) 1 b0 (lit< tt) (cell_of (a * (2 * 1)) b b0)
+      fraction_cell (ltb 0 (a * (2 * 1) % b)) a b (a * (2 * 1) / b) 1 b0 (lit< tt) (cell_of_is (a * (2 * 1)) b b0)
       ∙ sym (fraction_cell (ltb 0 (a * (2 * 1) % b)) c d (a * (2 * 1) / b) 1 d0 (lit< tt) one_cell)
 
 -- zero stays zero
@@ -64,7 +64,7 @@ value_alone n x y n0 x0 y0 e = go (nat_abs x.numerator) refl
         let o = n + x.denominator in
         let X = nat_abs x.numerator * 2 ^ o in
         let u = x.denominator * 2 ^ 0 in
-        let hx : InCell (ltb 0 (X % u)) X (X / u) u = cell_of X u (omega arith) in
+        let hx : InCell (ltb 0 (X % u)) X (X / u) u = cell_of_is X u (omega arith) in
         same_cell x y (ltb 0 (X % u)) 0 o (X / u) x0 y0 (equal_signs x y x0 y0 e) hx
         (cell_ratio (ltb 0 (X % u)) X (X / u) u (nat_abs y.numerator * 2 ^ o) (y.denominator * 2 ^ 0) y.denominator x.denominator y0 x0
         (omega (arith, ap (λ (m : ℕ). m * 2 ^ o) cross)) (omega arith) hx)

@@ -24,8 +24,8 @@ cell_high false x F u u0 e = omega arith
 cell_high true x F u u0 h = h.1
 
 -- every number has a cell
-pub cell_of : (x u : ℕ) → 0 < u → InCell (ltb 0 (x % u)) x (x / u) u
-cell_of x u u0 = go (x % u) (div-add-mod' x u) (mod-lt x u0)
+pub cell_of_is : (x u : ℕ) → 0 < u → InCell (ltb 0 (x % u)) x (x / u) u
+cell_of_is x u u0 = go (x % u) (div-add-mod' x u) (mod-lt x u0)
   where
     go : (r : ℕ) → x / u * u + r ≡ x → r < u → InCell (ltb 0 r) x (x / u) u
     go zero e l = omega arith

@@ -10,8 +10,7 @@ use mir.Syntax.{w32, w64}
 use mir.Val.{SFits, to_z, of_z}
 use Rattle.numbers.specs.Biased.{raise}
 use Rattle.numbers.proofs.Laws.Minus.{minus_natural, minus_negative}
-use Rattle.numbers.proofs.rounding.raised.Statement.{statement}
-use Rattle.numbers.proofs.rounding.raised.Tie as tie
+use Rattle.numbers.proofs.rounding.raised.Goals as goal
 
 sum_natural : (e : ℤ) → SFits w32 e → (b : ℕ) × (e +ℤ pos 2147483648 ≡ pos b) × (b < 2 ^ 32) × (e ≡ minus b raise)
 unfolding raise
@@ -40,15 +39,18 @@ module _ (e : ℤ) (fits : SFits w32 e) where
   cast_is : to_z w32 (of_z w32 e) ≡ e
   cast_is = to_z-of_z fits
 
-cast_result_2 : tie.Need-overflow-cast-result-2
-cast_result_2 c =
+pub overflow_cast-result : goal.overflow_cast-result
+overflow_cast-result c = rw (cast_is c.args.exponent c.ranges.exponent) (wider c.args.exponent c.ranges.exponent)
+
+pub overflow_add-result : goal.overflow_add-result
+overflow_add-result c = rw (cast_is c.args.exponent c.ranges.exponent) (sum_fits c.args.exponent c.ranges.exponent)
+
+pub overflow_cast-result-2 : goal.overflow_cast-result-2
+overflow_cast-result-2 c =
     let w = sum_natural c.args.exponent c.ranges.exponent in
     rw (cast_is c.args.exponent c.ranges.exponent, sum_is c.args.exponent c.ranges.exponent) (tt, record { fits = omega (arith, w.2) })
 
-returns : tie.Need-returns
+pub returns : goal.returns
 returns c =
     let w = sum_natural c.args.exponent c.ranges.exponent in
     rw (cast_is c.args.exponent c.ranges.exponent, sum_is c.args.exponent c.ranges.exponent) (w.3, w.2)
-
-pub raised_spec : {M : Type 1} → statement M
-raised_spec = tie.close (tie.spec (λ c. rw (cast_is c.args.exponent c.ranges.exponent) (wider c.args.exponent c.ranges.exponent)) (λ c. rw (cast_is c.args.exponent c.ranges.exponent) (sum_fits c.args.exponent c.ranges.exponent)) cast_result_2 returns)

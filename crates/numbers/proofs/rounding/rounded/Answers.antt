@@ -27,8 +27,8 @@ use Rattle.numbers.proofs.Laws.Fits.{given_round}
 use Rattle.numbers.proofs.Laws.Marked.{told_marked, claim_exact, zero_mark}
 use Rattle.numbers.proofs.Laws.Scaled.{scaled_fraction}
 use Rattle.numbers.proofs.Laws.Top.{round_top, claim_top, top_lies}
-use Rattle.numbers.proofs.rounding.rounded.Statement.{statement}
-use Rattle.numbers.proofs.rounding.rounded.Tie as tie
+use Rattle.numbers.proofs.rounding.rounded.Goals as goal
+use Rattle.numbers.proofs.rounding.rounded.Goals.{then-magnitude-eq0+else-magnitude-eq0-2, else-magnitude-eq0}
 
 -- no bit is set
 nothing : (task : Task) (negative : Bool) (high low x : ℕ) → high ≡ 0 → low ≡ 0 → marked_answer (Given Zero accuracy.Exact) ≡ marked_by task (scaled negative (wide high low) x raise)
@@ -73,44 +73,32 @@ module _ (task : Task) (n0 : 1 ≤ precision_of task) (n1 : precision_of task �
         (ap (told accuracy.Exact) (sym (claim_top negative F x z raise r.precision p.0 p.1 low high ∙ rw (round_top negative F x z raise r.precision p.0 p.1 low high Trunc)))
         ∙ told_marked accuracy.Exact v (claimed r.precision v) (λ y h. sym (claim_exact r.precision v y (scaled_fraction negative F x raise) p.0 p.1 h).1))
 
-round_top_requires : tie.Need-round-top-requires
-round_top_requires c κs =
-    let start = c.before.before.before.before.before.before.before in
-    let zeros = c.before.before.before.before.leading_zeros in
-    let n = precision _ start.requires.1 start.requires.2 _ c.before.task.given.1 in
-    (start.requires.0, zeros.ensures.0, still _ _ _ c.before.before.before.shift-left.ensures zeros.ensures.2, n.0, n.1)
+pub returns-then-magnitude-eq0-2 : goal.returns-then-magnitude-eq0-2
+returns-then-magnitude-eq0-2 c = nothing _ _ _ _ _ c.if-magnitude-eq0.true c.if-magnitude-eq0-2.true
 
-claim_top_requires : tie.Need-claim-top-requires
-claim_top_requires c κs =
-    let start = c.before.before.before.before.before.before.before in
-    let zeros = c.before.before.before.before.leading_zeros in
-    let n = precision _ start.requires.1 start.requires.2 _ c.before.task2.given.1 in
-    (start.requires.0, zeros.ensures.0, still _ _ _ c.before.before.before.shift-left.ensures zeros.ensures.2, n.0, n.1)
+pub leading_zeros-zeros-requires : goal.leading_zeros-zeros-requires
+leading_zeros-zeros-requires c =
+    elim c.if-magnitude-eq0.branch [
+      then-magnitude-eq0+else-magnitude-eq0-2 w ↦ low_set _ _ w.if-magnitude-eq0-2.false
+    | else-magnitude-eq0 w ↦ high_set _ _ w.if-magnitude-eq0.false
+    ]
 
-returns_2 : tie.Need-returns-2
-returns_2 c =
-    let start = c.before.before.before.before.before.before.before.before in
-    let zeros = c.before.before.before.before.before.leading_zeros in
+pub round_top-requires : goal.round_top-requires
+round_top-requires c =
+    let n = precision _ c.requires.1 c.requires.2 _ c.in-Round.is in
+    (c.requires.0, c.leading_zeros-zeros.ensures.0, still _ _ _ c.shift_left-top.ensures c.leading_zeros-zeros.ensures.2, n.0, n.1)
+
+pub claim_top-requires : goal.claim_top-requires
+claim_top-requires c =
+    let n = precision _ c.requires.1 c.requires.2 _ c.in-Exact.is in
+    (c.requires.0, c.leading_zeros-zeros.ensures.0, still _ _ _ c.shift_left-top.ensures c.leading_zeros-zeros.ensures.2, n.0, n.1)
+
+pub returns-in-Round : goal.returns-in-Round
+returns-in-Round c =
     c.round_top.ensures
-    ∙ round_value _ start.requires.1 start.requires.2 _ _ _ _ _ zeros.ensures.1 zeros.ensures.2 c.before.before.before.before.shift-left.ensures _ c.before.before.task.given.1
+    ∙ round_value _ c.requires.1 c.requires.2 _ _ _ _ _ c.leading_zeros-zeros.ensures.1 c.leading_zeros-zeros.ensures.2 c.shift_left-top.ensures _ c.in-Round.is
 
-returns_3 : tie.Need-returns-3
-returns_3 c =
-    let start = c.before.before.before.before.before.before.before.before in
-    let zeros = c.before.before.before.before.before.leading_zeros in
+pub returns-in-Exact : goal.returns-in-Exact
+returns-in-Exact c =
     c.claim_top.ensures
-    ∙ claim_value _ start.requires.1 start.requires.2 _ _ _ _ _ zeros.ensures.1 zeros.ensures.2 c.before.before.before.before.shift-left.ensures _ c.before.before.task2.given.1
-
-pub rounded_spec : {M : Type 1} → statement M
-rounded_spec =
-    tie.close
-    (tie.spec
-    (λ c. nothing _ _ _ _ _ c.before.before.if1.true c.if2.true)
-    (λ c κs. ⊎_elim (λ w. low_set _ _ w.2.left) (λ w. high_set _ _ w.left) c.if1.branch)
-    (λ c κs. search rules)
-    (λ c. search rules)
-    round_top_requires
-    (λ c. search rules)
-    claim_top_requires
-    returns_2
-    returns_3)
+    ∙ claim_value _ c.requires.1 c.requires.2 _ _ _ _ _ c.leading_zeros-zeros.ensures.1 c.leading_zeros-zeros.ensures.2 c.shift_left-top.ensures _ c.in-Exact.is

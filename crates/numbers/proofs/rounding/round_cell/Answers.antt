@@ -16,8 +16,8 @@ use Rattle.numbers.specs.declared.answer.Answer.TheVariants.{BadPrecision}
 use Rattle.numbers.specs.declared.task.Task.{Task}
 use Rattle.numbers.proofs.Laws.Refusals.{precision_range}
 use Rattle.numbers.proofs.Laws.EveryValue.{scaled_binary, every_value}
-use Rattle.numbers.proofs.rounding.round_cell.Statement.{statement}
-use Rattle.numbers.proofs.rounding.round_cell.Tie as tie
+use Rattle.numbers.proofs.rounding.round_cell.Goals as goal
+use Rattle.numbers.proofs.rounding.round_cell.Goals.{After-is_precision, Else-not-is_precision}
 
 module _ (negative : Bool) (F : ℕ) (rest : Bool) (e : ℤ) (task : Task) where
   refused : is_precision (precision_of task) ≡ false → marked_answer BadPrecision ≡ cell_rounding negative F rest e task
@@ -35,30 +35,23 @@ every : (negative : Bool) (F : ℕ) (rest : Bool) (e : ℤ) (task : Task) (out :
 every negative F rest e task out is = (is, rw is (every_value negative F rest e task))
 
 -- what is judged is the task's precision
-judged : (c : tie.After-is-precision) → c.is-precision.result ≡ is_precision (precision_of c.before.before.args.task)
-judged c = c.is-precision.ensures ∙ ap is_precision c.before.precision-of.ensures
+judged : (c : After-is_precision) → c.is_precision.result ≡ is_precision (precision_of c.args.task)
+judged c = c.is_precision.ensures ∙ ap is_precision c.precision_of.ensures
 
-precise : (c : tie.Else1) → is_precision (precision_of c.before.before.before.args.task) ≡ true
-precise c = sym (judged c.before) ∙ not-false _ c.if1.false
+precise : (c : Else-not-is_precision) → is_precision (precision_of c.args.task) ≡ true
+precise c = sym (judged c.before) ∙ c.if-not-is_precision.false
 
-returns : tie.Need-returns
-returns c =
-    let task = c.before.before.before.args.task in
-    every _ _ _ _ task _ (refused _ _ _ _ task (sym (judged c.before) ∙ not-true _ c.if1.true))
+pub returns-then-not-is_precision : goal.returns-then-not-is_precision
+returns-then-not-is_precision c =
+    every _ _ _ _ c.args.task _ (refused _ _ _ _ c.args.task (sym (judged c.before) ∙ c.if-not-is_precision.true))
 
-rounded_requires : tie.Need-rounded-requires
-rounded_requires c κs =
+pub rounded-requires : goal.rounded-requires
+rounded-requires c =
     let n = precision_range _ (precise c.before.before) in
-    (c.before.raised.ensures.1, n.0, n.1)
+    (c.raised.ensures.1, n.0, n.1)
 
-returns_2 : tie.Need-returns-2
-returns_2 c =
-    let left = c.before.before.before in
-    let start = left.before.before.before in
-    let task = start.args.task in
-    every _ _ _ _ task _
+pub returns : goal.returns
+returns c =
+    every _ _ _ _ c.args.task _
     (c.rounded.ensures
-    ∙ given _ _ _ _ task (precise left) _ _ (sym (to_z-of_z start.ranges.exponent) ∙ c.before.before.raised.ensures.0) c.before.end_of_lem.ensures)
-
-pub round_cell_spec : {M : Type 1} → statement M
-round_cell_spec = tie.close (tie.spec (λ c κs. search rules) (λ c κs. search rules) returns (λ c κs. search rules) (λ c κs. search rules) rounded_requires returns_2)
+    ∙ given _ _ _ _ c.args.task (precise c.before.before.before) _ _ (sym (to_z-of_z c.ranges.exponent) ∙ c.raised.ensures.0) c.end_of.ensures)

@@ -6,8 +6,7 @@ use native.Mathlib.Omega.{arith}
 use borrow.Author.Tests.{lt-ltb, le-ltb}
 use lib.Dec.{ltb}
 use Rattle.numbers.specs.Grid.{bit_of}
-use Rattle.numbers.proofs.decision.has_fraction.Statement.{statement}
-use Rattle.numbers.proofs.decision.has_fraction.Tie as tie
+use Rattle.numbers.proofs.decision.has_fraction.Goals as goal
 
 word : (f : ℕ) (rest : Bool) → 0 < f → true ≡ ltb 0 (2 * f + bit_of rest)
 word f rest h = sym (lt-ltb 0 (2 * f + bit_of rest) (omega arith))
@@ -16,5 +15,8 @@ flag : (f : ℕ) (rest : Bool) → f ≤ 0 → rest ≡ ltb 0 (2 * f + bit_of re
 flag f true h = sym (lt-ltb 0 (2 * f + 1) (omega arith))
 flag f false h = sym (le-ltb 0 (2 * f + 0) (omega arith))
 
-pub has_fraction_spec : {M : Type 1} → statement M
-has_fraction_spec = tie.close (tie.spec (λ c. word _ c.before.args.rest c.if1.true) (λ c. flag _ c.before.args.rest c.if1.false))
+pub returns-then-fraction-gt0 : goal.returns-then-fraction-gt0
+returns-then-fraction-gt0 c = word _ c.args.rest c.if-fraction-gt0.true
+
+pub returns : goal.returns
+returns c = flag _ c.args.rest c.if-fraction-gt0.false

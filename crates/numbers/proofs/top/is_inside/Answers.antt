@@ -12,8 +12,7 @@ use lib.Ieee.{minus}
 use Rattle.numbers.specs.Biased.{raise, highest_biased}
 use Rattle.numbers.specs.Number.{is_working_exponent}
 use Rattle.numbers.proofs.Laws.Bias.{too_low, too_high, working}
-use Rattle.numbers.proofs.top.is_inside.Statement.{statement}
-use Rattle.numbers.proofs.top.is_inside.Tie as tie
+use Rattle.numbers.proofs.top.is_inside.Goals as goal
 
 below : (x z : ℕ) → x < z + 2147417986 → false ≡ is_working_exponent (minus (x + 127) (raise + z))
 unfolding raise
@@ -27,5 +26,8 @@ above x z h = go (dec_le (x - (z + 2147417986)) highest_biased)
     go (yes l) = le-leb (x - (z + 2147417986)) highest_biased l ∙ sym (working (x + 127) (raise + z) (omega arith) (omega arith))
     go (no n) = let l = lt_of_not-le n in lt-leb (x - (z + 2147417986)) highest_biased l ∙ sym (too_high (x + 127) (raise + z) (omega arith))
 
-pub is_inside_spec : {M : Type 1} → statement M
-is_inside_spec = tie.close (tie.spec (λ c. search rules) (λ c. below _ _ c.if1.true) (λ c. search rules) (λ c. search rules) (λ c. above _ _ c.if1.false))
+pub returns-then-exponent-zeros : goal.returns-then-exponent-zeros
+returns-then-exponent-zeros c = below _ _ c.if-exponent-zeros.true
+
+pub returns : goal.returns
+returns c = above _ _ c.if-exponent-zeros.false

@@ -14,8 +14,7 @@ use borrow.Author.Tests.{lt-ltb}
 use Rattle.numbers.specs.Number.{is_fit, is_between, is_significand}
 use Rattle.numbers.specs.declared.number.Number.{Number}
 use Rattle.numbers.specs.declared.number.Number.TheVariants.{Zero, Finite}
-use Rattle.numbers.proofs.number.is_fit.Statement.{statement}
-use Rattle.numbers.proofs.number.is_fit.Tie as tie
+use Rattle.numbers.proofs.number.is_fit.Goals as goal
 
 module _ (lowest highest : ℤ) (x : Number) where
   zero_fit : x ≡ Zero → true ≡ is_fit (is_between lowest highest) x
@@ -39,24 +38,20 @@ module _ (lowest highest : ℤ) (x : Number) where
 as_read : {a b : ℤ} {t : Bool} → SFits w32 a → SFits w32 b → le_z (to_z w32 (of_z w32 a)) (to_z w32 (of_z w32 b)) ≡ t → le_z a b ≡ t
 as_read ha hb e = sym (ap₂ le_z (to_z-of_z ha) (to_z-of_z hb)) ∙ e
 
-returns_2 : tie.Need-returns-2
-returns_2 c =
-    let start = c.before.before.before.before.before in
-    let v = c.before.before.before.x.given in
-    let fits : SFits w32 v.0.1.0 = search rules in
-    between _ _ _ _ _ _ v.1 (as_read start.ranges.lowest fits c.before.if1.true) (as_read fits start.ranges.highest c.if2.true) (omega arith)
+pub returns-in_default : goal.returns-in_default
+returns-in_default c = zero_fit _ _ _ c.in_default.is
 
-returns_3 : tie.Need-returns-3
-returns_3 c =
-    let v = c.before.before.before.x.given in
-    let fits : SFits w32 v.0.1.0 = search rules in
-    above _ _ _ _ _ _ v.1 (as_read fits c.before.before.before.before.before.ranges.highest c.if2.false)
+pub returns-then-exponent-highest : goal.returns-then-exponent-highest
+returns-then-exponent-highest c =
+    let fits : SFits w32 c.in-Finite.exponent = search rules in
+    between _ _ _ _ _ _ c.in-Finite.is (as_read c.ranges.lowest fits c.if-lowest-exponent.true) (as_read fits c.ranges.highest c.if-exponent-highest.true) (omega arith)
 
-returns_4 : tie.Need-returns-4
-returns_4 c =
-    let v = c.before.before.x.given in
-    let fits : SFits w32 v.0.1.0 = search rules in
-    below _ _ _ _ _ _ v.1 (as_read c.before.before.before.before.ranges.lowest fits c.if1.false)
+pub returns-else-exponent-highest : goal.returns-else-exponent-highest
+returns-else-exponent-highest c =
+    let fits : SFits w32 c.in-Finite.exponent = search rules in
+    above _ _ _ _ _ _ c.in-Finite.is (as_read fits c.ranges.highest c.if-exponent-highest.false)
 
-pub is_fit_spec : {M : Type 1} → statement M
-is_fit_spec = tie.close (tie.spec (λ c. search rules) (λ c. search rules) (λ c. zero_fit _ _ _ c.enum_told.given.1) returns_2 returns_3 returns_4)
+pub returns-else-lowest-exponent : goal.returns-else-lowest-exponent
+returns-else-lowest-exponent c =
+    let fits : SFits w32 c.in-Finite.exponent = search rules in
+    below _ _ _ _ _ _ c.in-Finite.is (as_read c.ranges.lowest fits c.if-lowest-exponent.false)

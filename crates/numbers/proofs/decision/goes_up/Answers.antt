@@ -10,8 +10,7 @@ use Rattle.numbers.specs.Grid.{bit_of}
 use Rattle.numbers.specs.Rounding.{goes_up}
 use Rattle.numbers.specs.declared.task.Mode.{Mode}
 use Rattle.numbers.specs.declared.task.Mode.TheVariants.{Trunc, Away, Near, Sticky, Up, Down}
-use Rattle.numbers.proofs.decision.goes_up.Statement.{statement}
-use Rattle.numbers.proofs.decision.goes_up.Tie as tie
+use Rattle.numbers.proofs.decision.goes_up.Goals as goal
 
 -- nothing was dropped: no mode goes up
 exact : (mode : Mode) (negative : Bool) (q : ℕ) → goes_up mode negative q 0 (2 ^ 65) ≡ false
@@ -80,42 +79,32 @@ none t r e h = ltb-false 0 r (sym e ∙ not-true t h)
 dropped : (t : Bool) (r : ℕ) → t ≡ ltb 0 r → not t ≡ false → 0 < r
 dropped t r e h = ltb-true 0 r (sym e ∙ not-false t h)
 
-returns_2 : tie.Need-returns-2
-returns_2 c = near_below _ c.before.enum-told3.given.1 _ _ _ c.before.before.before.before.before.args.rest (omega (arith, c.if2.true))
+pub returns-then-not-has_fraction : goal.returns-then-not-has_fraction
+returns-then-not-has_fraction c = nothing _ _ _ _ c.args.rest (none _ _ c.has_fraction.ensures c.if-not-has_fraction.true-raw)
 
-returns_3 : tie.Need-returns-3
-returns_3 c = near_above _ c.before.before.enum-told3.given.1 _ _ _ c.before.before.before.before.before.before.args.rest c.if3.true
+pub returns-then-fraction-lt-TOP_BIT : goal.returns-then-fraction-lt-TOP_BIT
+returns-then-fraction-lt-TOP_BIT c = near_below _ c.in-Near.is _ _ _ c.args.rest (omega (arith, c.if-fraction-lt-TOP_BIT.true))
 
-returns_6 : tie.Need-returns-6
-returns_6 c = away _ _ _ _ c.before.before.before.before.args.rest (dropped _ _ c.before.before.before.has-fraction.ensures c.before.before.if1.false) c.enum-told2.given.1
+pub returns-then-fraction-gt-TOP_BIT : goal.returns-then-fraction-gt-TOP_BIT
+returns-then-fraction-gt-TOP_BIT c = near_above _ c.in-Near.is _ _ _ c.args.rest c.if-fraction-gt-TOP_BIT.true
 
-returns_8 : tie.Need-returns-8
-returns_8 c = sticky _ _ _ _ c.before.before.before.before.args.rest (dropped _ _ c.before.before.before.has-fraction.ensures c.before.before.if1.false) c.enum-told4.given.1
+pub returns-then-rest : goal.returns-then-rest
+returns-then-rest c = near_rest _ c.in-Near.is _ _ _ _ (omega arith) c.if-rest.true
 
-returns_9 : tie.Need-returns-9
-returns_9 c = up _ _ _ _ c.before.before.before.before.args.rest (dropped _ _ c.before.before.before.has-fraction.ensures c.before.before.if1.false) c.enum-told5.given.1
+pub returns-in-Trunc : goal.returns-in-Trunc
+returns-in-Trunc c = trunc _ _ _ _ c.args.rest c.in-Trunc.is
 
-returns_10 : tie.Need-returns-10
-returns_10 c = down _ _ _ _ c.before.before.before.before.args.rest (dropped _ _ c.before.before.before.has-fraction.ensures c.before.before.if1.false) c.enum-told6.given.1
+pub returns-in-Away : goal.returns-in-Away
+returns-in-Away c = away _ _ _ _ c.args.rest (dropped _ _ c.has_fraction.ensures c.if-not-has_fraction.false-raw) c.in-Away.is
 
-pub goes_up_spec : {M : Type 1} → statement M
-goes_up_spec =
-    tie.close
-    (tie.spec
-    (λ c κs. search rules)
-    (λ c. nothing _ _ _ _ c.before.before.args.rest (none _ _ c.before.has-fraction.ensures c.if1.true))
-    (λ c. search rules)
-    (λ c. search rules)
-    (λ c. search rules)
-    returns_2
-    returns_3
-    (λ c. near_rest _ c.before.before.before.enum-told3.given.1 _ _ _ _ (omega arith) c.if4.true)
-    (λ c. search rules)
-    (λ c. search rules)
-    (λ c. search rules)
-    (λ c. trunc _ _ _ _ c.before.before.before.before.args.rest c.enum_told.given.1)
-    returns_6
-    (λ c. near_tie _ c.before.before.before.enum-told3.given.1 _ _ _ _ (omega arith) c.if4.false)
-    returns_8
-    returns_9
-    returns_10)
+pub returns-else-rest : goal.returns-else-rest
+returns-else-rest c = near_tie _ c.in-Near.is _ _ _ _ (omega arith) c.if-rest.false
+
+pub returns-in-Sticky : goal.returns-in-Sticky
+returns-in-Sticky c = sticky _ _ _ _ c.args.rest (dropped _ _ c.has_fraction.ensures c.if-not-has_fraction.false-raw) c.in-Sticky.is
+
+pub returns-in-Up : goal.returns-in-Up
+returns-in-Up c = up _ _ _ _ c.args.rest (dropped _ _ c.has_fraction.ensures c.if-not-has_fraction.false-raw) c.in-Up.is
+
+pub returns-in-Down : goal.returns-in-Down
+returns-in-Down c = down _ _ _ _ c.args.rest (dropped _ _ c.has_fraction.ensures c.if-not-has_fraction.false-raw) c.in-Down.is

@@ -18,8 +18,7 @@ use Rattle.numbers.specs.declared.answer.Answer.TheVariants.{ExponentOutside, To
 use Rattle.numbers.specs.declared.number.Number.{Number}
 use Rattle.numbers.specs.declared.number.Number.TheVariants.{Finite}
 use Rattle.numbers.proofs.Laws.Top.{top_bits, upper_bits}
-use Rattle.numbers.proofs.top.claim_top.Statement.{statement}
-use Rattle.numbers.proofs.top.claim_top.Tie as tie
+use Rattle.numbers.proofs.top.claim_top.Goals as goal
 
 outside : (negative : Bool) (e : ℤ) (n F : ℕ) (inside : Bool) → inside ≡ is_working_exponent e → inside ≡ false → marked_answer ExponentOutside ≡ claimed_top negative e n F
 unfolding marked_answer told claimed_top judged
@@ -40,36 +39,16 @@ module _ (negative : Bool) (e : ℤ) (F n high low : ℕ) (rest inside inexact :
       rw (sym judged ∙ h, eq-eqb (F % 2 ^ (128 - n)) 0 (let l = ltb-false 0 (F % 2 ^ (128 - n)) (bits ∙ k) in omega arith))
       (ap (λ (y : Number). marked_as y accuracy.Exact) (upper_bits F n high low rest n1 word shifted dropped F1 negative e))
 
-returns : tie.Need-returns
-returns c = outside _ _ _ _ _ c.before.before.is-inside.ensures (not-true _ c.if1.true)
+pub returns-then-outside : goal.returns-then-outside
+returns-then-outside c = outside _ _ _ _ _ c.is_inside-outside.ensures c.if-outside.true
 
-returns_2 : tie.Need-returns-2
-returns_2 c =
-    let e = c.before.before in
-    let f = e.before.before in
-    let cell = f.before.before in
+pub returns-then-exact : goal.returns-then-exact
+returns-then-exact c =
     c.checked.ensures
-    ∙ none _ _ _ _ _ _ cell.shift-right.result.rest _ _ cell.before.before.requires.4 c.before.struct-known2.given.1.0.fits cell.shift-right.ensures.0 cell.shift-right.ensures.1 f.before.is-inside.ensures f.has-fraction.ensures
-    cell.before.before.requires.2 (not-false _ e.before.if1.false) (not-true _ e.if2.true)
+    ∙ none _ _ _ _ _ _ c.shift_right-cell.result.rest _ _ c.requires.4 c.struct_known-then-exact-1.given.1.0.fits c.shift_right-cell.ensures.0 c.shift_right-cell.ensures.1 c.is_inside-outside.ensures c.has_fraction-exact.ensures
+    c.requires.2 c.if-outside.false c.if-exact.true
 
-returns_3 : tie.Need-returns-3
-returns_3 c =
-    let f = c.before.before in
-    let cell = f.before.before in
-    too_many _ _ _ _ _ _ cell.shift-right.result.rest _ _ cell.before.before.requires.4 (omega arith) cell.shift-right.ensures.0 cell.shift-right.ensures.1 f.before.is-inside.ensures f.has-fraction.ensures
-    (not-false _ c.before.if1.false) (not-false _ c.if2.false)
-
-pub claim_top_spec : {M : Type 1} → statement M
-claim_top_spec =
-    tie.close
-    (tie.spec
-    (λ c. search rules)
-    (λ c κs. search rules)
-    (λ c κs. search rules)
-    (λ c κs. search rules)
-    returns
-    (λ c. search rules)
-    (λ c. search rules)
-    (λ c κs. search rules)
-    returns_2
-    returns_3)
+pub returns : goal.returns
+returns c =
+    too_many _ _ _ _ _ _ c.shift_right-cell.result.rest _ _ c.requires.4 (omega arith) c.shift_right-cell.ensures.0 c.shift_right-cell.ensures.1 c.is_inside-outside.ensures c.has_fraction-exact.ensures
+    c.if-outside.false c.if-exact.false

@@ -19,8 +19,7 @@ use Rattle.numbers.specs.declared.answer.Answer.TheVariants.{Given, ExponentOuts
 use Rattle.numbers.specs.declared.number.Number.TheVariants.{Finite}
 use Rattle.numbers.proofs.Laws.Minus.{minus_same}
 use Rattle.numbers.proofs.Laws.Bias.{working_range}
-use Rattle.numbers.proofs.top.checked.Statement.{statement}
-use Rattle.numbers.proofs.top.checked.Tie as tie
+use Rattle.numbers.proofs.top.checked.Goals as goal
 
 module _ (negative : Bool) (S x z : ℕ) (inside : Bool) (e : inside ≡ is_working_exponent (minus (x + 127) (raise + z))) where
   outside : inside ≡ false → (mark : Accuracy) → marked_answer ExponentOutside ≡ told mark (checked (Finite negative (minus (x + 127) (raise + z)) S))
@@ -41,16 +40,14 @@ module _ (negative : Bool) (S x z : ℕ) (inside : Bool) (e : inside ≡ is_work
   unfolding marked_answer told checked
   fit h r fits k mark = rw (to_z-of_z fits, k ∙ same h, sym e ∙ h)
 
-sub_unbiased : tie.Need-overflow-sub-unbiased
-sub_unbiased c = (range c.before.before.args.negative c.before.before.args.significand _ _ _ c.before.is-inside.ensures c.if1.true).0
+pub overflow_sub-exponent : goal.overflow_sub-exponent
+overflow_sub-exponent c = (range c.args.negative c.args.significand _ _ _ c.is_inside.ensures c.if-is_inside.true).0
 
-unbiased_requires : tie.Need-unbiased-requires
-unbiased_requires c κs = (range c.before.before.args.negative c.before.before.args.significand _ _ _ c.before.is-inside.ensures c.if1.true).1
+pub unbiased-requires : goal.unbiased-requires
+unbiased-requires c = (range c.args.negative c.args.significand _ _ _ c.is_inside.ensures c.if-is_inside.true).1
 
-returns : tie.Need-returns
-returns c = fit _ _ _ _ _ c.before.before.is-inside.ensures c.before.if1.true _ (record { sfits = c.unbiased.type-inv }) c.unbiased.ensures _
+pub returns-then-is_inside : goal.returns-then-is_inside
+returns-then-is_inside c = fit _ _ _ _ _ c.is_inside.ensures c.if-is_inside.true _ (record { sfits = c.unbiased.type_inv }) c.unbiased.ensures _
 
-pub checked_spec : {M : Type 1} → statement M
-checked_spec =
-    tie.close
-    (tie.spec (λ c κs. search rules) (λ c. search rules) sub_unbiased unbiased_requires returns (λ c. outside _ _ _ _ _ c.before.is-inside.ensures c.if1.false _))
+pub returns-else-is_inside : goal.returns-else-is_inside
+returns-else-is_inside c = outside _ _ _ _ _ c.is_inside.ensures c.if-is_inside.false _

@@ -10,8 +10,7 @@ use mir.Val.{SFits, to_z, of_z}
 use Rattle.numbers.specs.Number.{negated}
 use Rattle.numbers.specs.declared.number.Number.{Number}
 use Rattle.numbers.specs.declared.number.Number.TheVariants.{Zero, Finite}
-use Rattle.numbers.proofs.number.negated.Statement.{statement}
-use Rattle.numbers.proofs.number.negated.Tie as tie
+use Rattle.numbers.proofs.number.negated.Goals as goal
 
 of_zero : (x : Number) → x ≡ Zero → Zero ≡ negated x
 unfolding negated
@@ -21,11 +20,10 @@ of_finite : (x : Number) (s : Bool) (e : ℤ) (S : ℕ) → x ≡ Finite s e S �
 unfolding negated
 of_finite x s e S k fits = rw (k, to_z-of_z fits)
 
-returns_2 : tie.Need-returns-2
-returns_2 c =
-    let v = c.before.x.given in
-    let fits : SFits w32 v.0.1.0 = search rules in
-    of_finite _ _ _ _ v.1 fits
+pub returns-in-Zero : goal.returns-in-Zero
+returns-in-Zero c = of_zero _ c.in-Zero.is
 
-pub negated_spec : {M : Type 1} → statement M
-negated_spec = tie.close (tie.spec (λ c. search rules) (λ c. search rules) (λ c. of_zero _ c.enum_told.given.1) returns_2)
+pub returns-in-Finite : goal.returns-in-Finite
+returns-in-Finite c =
+    let fits : SFits w32 c.in-Finite.exponent = search rules in
+    of_finite _ _ _ _ c.in-Finite.is fits

@@ -10,15 +10,8 @@ use lib.ListN.{length, take, set, length-set}
 use lib.Seq.{take_all, take-suc-set}
 use Rattle.little_endian.specs.Bytes.{bytes_of}
 use Rattle.little_endian.proofs.Laws.Bytes.{bytes_more}
-use Rattle.little_endian.proofs.write.Statement.{statement}
-use Rattle.little_endian.proofs.write.Tie as tie
-
--- i bytes of w are written over the old ones
-record Written (old : List ℕ) (w : ℕ) (bytes : List ℕ) (left i : ℕ) : Type 0 where
-  kept : length bytes ≡ length old
-  within : i ≤ length bytes
-  holds : take i bytes ≡ bytes_of i w
-  rest : left ≡ w / 256 ^ i
+use Rattle.little_endian.proofs.write.Invariants.{Written}
+use Rattle.little_endian.proofs.write.Goals as goal
 
 -- no byte is written, then one more in each turn, until all are
 begins : (old : List ℕ) (w : ℕ) → Written old w old w 0
@@ -31,28 +24,26 @@ next old w bytes left i a h = record {
   within = rw length-set (add-one-le h);
   holds = rw (bytes_more i w, add-one, take-suc-set bytes i (left % 256) h, a.holds, a.rest);
   rest = rw (a.rest, add-one, pow-suc) (div-div-eq-div-mul w (256 ^ i) 256);
+
 }
 
 ends : (old : List ℕ) (w : ℕ) (bytes : List ℕ) (left i : ℕ) → Written old w bytes left i → length bytes ≤ i → bytes ≡ bytes_of (length old) w
 ends old w bytes left i a h = sym (take_all i bytes h) ∙ a.holds ∙ ap (λ (k : ℕ). bytes_of k w) (le_antisymm a.within h ∙ a.kept)
 
-abbrev invariant-loop : tie.invariant-loop
-invariant-loop bytes₀ w left₀ i₀ bytes left i = Written bytes₀ w bytes left i
+pub loop-i-init : goal.loop-i-init
+loop-i-init c = begins _ _
 
-abbrev decreases-loop : tie.decreases-loop
-decreases-loop bytes₀ w left₀ i₀ bytes left i = length bytes₀ - i
+pub bounds-bytes-i : goal.bounds-bytes-i
+bounds-bytes-i c = c.loop-i-test.true
 
-pub write_spec : {M : Type 1} → statement M
-write_spec =
-    tie.close
-    (tie.spec
-    invariant-loop
-    decreases-loop
-    (λ c. begins _ _)
-    (λ c. search rules)
-    (λ c. c.loop-test.true)
-    (λ c. search rules)
-    (λ c. omega (arith, c.loop-test.true, c.before.loop.invariant.kept))
-    (λ c. next _ _ _ _ _ c.before.loop.invariant c.loop-test.true)
-    (λ c. c.before.loop.invariant.kept)
-    (λ c. ends _ _ _ _ _ c.before.loop.invariant c.loop-test.false))
+pub loop-i-smaller : goal.loop-i-smaller
+loop-i-smaller c = omega (arith, c.loop-i-test.true, c.loop-i.invariant.kept)
+
+pub loop-i-preserved : goal.loop-i-preserved
+loop-i-preserved c = next _ _ _ _ _ c.loop-i.invariant c.loop-i-test.true
+
+pub shape_of-bytes : goal.shape_of-bytes
+shape_of-bytes c = c.loop-i.invariant.kept
+
+pub returns : goal.returns
+returns c = ends _ _ _ _ _ c.loop-i.invariant c.loop-i-test.false

@@ -23,8 +23,7 @@ use Rattle.numbers.specs.declared.number.Number.TheVariants.{Finite}
 use Rattle.numbers.specs.declared.task.Mode.{Mode}
 use Rattle.numbers.proofs.Laws.Minus.{suc_minus}
 use Rattle.numbers.proofs.Laws.Top.{top_whole, top_accuracy, high_small, significand_is, placed_same, placed_carry, placed_next}
-use Rattle.numbers.proofs.top.round_top.Statement.{statement}
-use Rattle.numbers.proofs.top.round_top.Tie as tie
+use Rattle.numbers.proofs.top.round_top.Goals as goal
 
 module _ (mode : Mode) (negative : Bool) (x z F n high low : ℕ) (rest up inexact : Bool) (mark : Accuracy) (n0 : 1 ≤ n) (n1 : n ≤ 64) (F1 : F < 2 ^ 128) (word : low < 2 ^ 64)
     (shifted : wide high low ≡ F / 2 ^ (64 - n)) (dropped : rest ≡ ltb 0 (F % 2 ^ (64 - n)))
@@ -73,55 +72,29 @@ module _ (mode : Mode) (negative : Bool) (x z F n high low : ℕ) (rest up inexa
       fits : (a b : ℕ) {s u : ℕ} → b ≤ (2 ^ 64 - 1) - a → a ≡ s → b ≡ u → 0 < u → s + u < 2 ^ 64
       fits a b l p q u0 = omega arith
 
-returns : tie.Need-returns
-returns c =
-    let lies = c.before.before in
-    let decided = lies.before.before in
-    let known = decided.before in
-    let start = known.before.before.before in
+pub overflow_sub-shift : goal.overflow_sub-shift
+overflow_sub-shift c = omega arith
+
+pub overflow_shl-significand : goal.overflow_shl-significand
+overflow_shl-significand c = omega arith
+
+pub returns-then-not-up : goal.returns-then-not-up
+returns-then-not-up c =
     c.checked.ensures
-    ∙ (stays _ _ _ _ _ _ _ _ known.before.shift-right.result.rest _ _ _ start.requires.3 start.requires.4 start.requires.2 known.struct-known2.given.1.0.fits known.before.shift-right.ensures.0 known.before.shift-right.ensures.1
-    decided.goes_up.ensures lies.before.has-fraction.ensures lies.accuracy-of.ensures (not-true _ c.before.if1.true))
+    ∙ (stays _ _ _ _ _ _ _ _ c.shift_right-cell.result.rest _ _ _ c.requires.3 c.requires.4 c.requires.2 c.struct_known-2-1.given.1.0.fits c.shift_right-cell.ensures.0 c.shift_right-cell.ensures.1
+    c.goes_up-up.ensures c.has_fraction-inexact.ensures c.accuracy_of-accuracy.ensures c.if-not-up.true)
 
-returns_2 : tie.Need-returns-2
-returns_2 c =
-    let lies = c.before.before.before in
-    let decided = lies.before.before in
-    let known = decided.before in
-    let start = known.before.before.before in
-    c.checked2.ensures
-    ∙ (carries _ _ _ _ _ _ _ _ known.before.shift-right.result.rest _ _ _ start.requires.3 start.requires.4 start.requires.2 known.struct-known2.given.1.0.fits known.before.shift-right.ensures.0 known.before.shift-right.ensures.1
-    decided.goes_up.ensures lies.before.has-fraction.ensures lies.accuracy-of.ensures (not-false _ c.before.before.if1.false) c.before.if2.true)
+pub overflow_shl-unit : goal.overflow_shl-unit
+overflow_shl-unit c = omega arith
 
-returns_3 : tie.Need-returns-3
-returns_3 c =
-    let lies = c.before.before.before in
-    let decided = lies.before.before in
-    let known = decided.before in
-    let start = known.before.before.before in
-    c.checked3.ensures
-    ∙ (goes_on _ _ _ _ _ _ _ _ known.before.shift-right.result.rest _ _ _ start.requires.3 start.requires.4 start.requires.2 known.struct-known2.given.1.0.fits known.before.shift-right.ensures.0 known.before.shift-right.ensures.1
-    decided.goes_up.ensures lies.before.has-fraction.ensures lies.accuracy-of.ensures (not-false _ c.before.before.if1.false) c.before.if2.false)
+pub returns-then-significand-unit : goal.returns-then-significand-unit
+returns-then-significand-unit c =
+    c.checked-then-significand-unit.ensures
+    ∙ (carries _ _ _ _ _ _ _ _ c.shift_right-cell.result.rest _ _ _ c.requires.3 c.requires.4 c.requires.2 c.struct_known-2-1.given.1.0.fits c.shift_right-cell.ensures.0 c.shift_right-cell.ensures.1
+    c.goes_up-up.ensures c.has_fraction-inexact.ensures c.accuracy_of-accuracy.ensures c.if-not-up.false c.if-significand-unit.true)
 
-pub round_top_spec : {M : Type 1} → statement M
-round_top_spec =
-    tie.close
-    (tie.spec
-    (λ c. omega arith)
-    (λ c κs. search rules)
-    (λ c. search rules)
-    (λ c. omega arith)
-    (λ c κs. search rules)
-    (λ c κs. search rules)
-    (λ c κs. search rules)
-    (λ c κs. search rules)
-    returns
-    (λ c. search rules)
-    (λ c. omega arith)
-    (λ c. search rules)
-    (λ c. search rules)
-    (λ c κs. search rules)
-    (λ c. search rules)
-    (λ c κs. search rules)
-    returns_2
-    returns_3)
+pub returns-else-significand-unit : goal.returns-else-significand-unit
+returns-else-significand-unit c =
+    c.checked-else-significand-unit.ensures
+    ∙ (goes_on _ _ _ _ _ _ _ _ c.shift_right-cell.result.rest _ _ _ c.requires.3 c.requires.4 c.requires.2 c.struct_known-2-1.given.1.0.fits c.shift_right-cell.ensures.0 c.shift_right-cell.ensures.1
+    c.goes_up-up.ensures c.has_fraction-inexact.ensures c.accuracy_of-accuracy.ensures c.if-not-up.false c.if-significand-unit.false)

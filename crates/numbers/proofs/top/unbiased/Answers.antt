@@ -11,8 +11,7 @@ use mir.Val.{SFits, to_z}
 use Rattle.numbers.specs.Biased.{bias, highest_biased}
 use Rattle.numbers.proofs.Laws.Minus.{pos_minus}
 use Rattle.numbers.proofs.Laws.SignedWords.{minus_fits}
-use Rattle.numbers.proofs.top.unbiased.Statement.{statement}
-use Rattle.numbers.proofs.top.unbiased.Tie as tie
+use Rattle.numbers.proofs.top.unbiased.Goals as goal
 
 module _ (b : ℕ) (h : b ≤ highest_biased) where
   difference_is : to_z w32 b -ℤ pos bias ≡ minus b bias
@@ -21,5 +20,8 @@ module _ (b : ℕ) (h : b ≤ highest_biased) where
   difference_fits : SFits w32 (to_z w32 b -ℤ pos bias)
   difference_fits = rw difference_is (minus_fits b bias (omega arith) (omega arith))
 
-pub unbiased_spec : {M : Type 1} → statement M
-unbiased_spec = tie.close (tie.spec (λ c. search rules) (λ c. difference_fits c.args.b c.requires) (λ c. to_z-of_z (difference_fits c.args.b c.requires) ∙ difference_is c.args.b c.requires))
+pub overflow_sub-result : goal.overflow_sub-result
+overflow_sub-result c = difference_fits c.args.b c.requires
+
+pub returns : goal.returns
+returns c = to_z-of_z (difference_fits c.args.b c.requires) ∙ difference_is c.args.b c.requires

@@ -5,8 +5,7 @@ use Prim.Native.Nat.{ℕ, ◌+◌, ◌*◌, ◌/◌}
 use native.Mathlib.Omega.{arith}
 use borrow.Author.Rules.{rules}
 use Rattle.numbers.specs.Cell.{wide, odd_of, end_of}
-use Rattle.numbers.proofs.rounding.end_of.Statement.{statement}
-use Rattle.numbers.proofs.rounding.end_of.Tie as tie
+use Rattle.numbers.proofs.rounding.end_of.Goals as goal
 
 odd : (high low : ℕ) → wide high (low / 2 * 2 + 1) ≡ odd_of (wide high low)
 unfolding wide odd_of
@@ -20,5 +19,8 @@ clear : (rest : Bool) (high low : ℕ) → rest ≡ false → wide high low ≡ 
 unfolding end_of
 clear rest high low e = rw e
 
-pub end_of_spec : {M : Type 1} → statement M
-end_of_spec = tie.close (tie.spec (λ c. search rules) (λ c. search rules) (λ c. set _ _ _ c.before.if1.true) (λ c. clear _ _ _ c.if1.false))
+pub returns-then-cell : goal.returns-then-cell
+returns-then-cell c = set _ _ _ c.if-cell.true
+
+pub returns-else-cell : goal.returns-else-cell
+returns-else-cell c = clear _ _ _ c.if-cell.false

@@ -1,0 +1,26 @@
+-- `little_endian::write` meets its contract. The loop goes up: the first i bytes are those of w, and `left` is what they do not hold.
+use borrow.Author.Rules.{rules}
+use mathlib.Core.Path.{◌≡◌, refl, sym, ap, ◌∙◌}
+use mathlib.Core.List.{List}
+use Prim.Native.Nat.{ℕ, ◌+◌, ◌-◌, ◌/◌, ◌%◌, ◌^◌, ◌≤◌, ◌<◌, zero-le}
+use native.Mathlib.Nat.{le_antisymm, div-one, div-div-eq-div-mul, pow-suc}
+use native.Mathlib.Numerals.{add-one, add-one-le}
+use native.Mathlib.Omega.{arith}
+use lib.ListN.{length, take, set, length-set}
+use lib.Seq.{take_all, take-suc-set}
+use Rattle.little_endian.specs.Bytes.{bytes_of}
+use Rattle.little_endian.proofs.Laws.Bytes.{bytes_more}
+use Rattle.little_endian.proofs.write.Given as goal
+
+-- i bytes of w are written over the old ones
+pub record Written (old : List ℕ) (w : ℕ) (bytes : List ℕ) (left i : ℕ) : Type 0 where
+  pub kept : length bytes ≡ length old
+  pub within : i ≤ length bytes
+  pub holds : take i bytes ≡ bytes_of i w
+  pub rest : left ≡ w / 256 ^ i
+
+abbrev pub invariant-loop-i : goal.invariant-loop-i
+invariant-loop-i l = Written l.initial.bytes l.w l.bytes l.left l.i
+
+abbrev pub decreases-loop-i : goal.decreases-loop-i
+decreases-loop-i l = length l.initial.bytes - l.i

@@ -9,7 +9,7 @@ use Rattle.numbers.specs.Accuracy.{marked_by}
 use Rattle.numbers.specs.Grid.{InCell, bit_of}
 use Rattle.numbers.specs.Cell.{wide, end_of}
 use Rattle.numbers.specs.declared.task.Task.{Task}
-use Rattle.numbers.proofs.Laws.Whole.{cell_of}
+use Rattle.numbers.proofs.Laws.Whole.{cell_of_is}
 use Rattle.numbers.proofs.Laws.Pairs.{fraction}
 use Rattle.numbers.proofs.Laws.Fractions.{same_sum, other_sum, sum_fraction}
 use Rattle.numbers.proofs.Laws.Marked.{same_mark}
@@ -67,7 +67,7 @@ flag true m y l e = omega arith
 module _ (large small : Operand) (h : IsAligned large small) (Y : ℕ) (rest : Bool) (shifted : Y ≡ small.significand * 2 ^ 63 / 2 ^ (large.exponent - small.exponent))
     (dropped : rest ≡ ltb 0 (small.significand * 2 ^ 63 % 2 ^ (large.exponent - small.exponent))) where
   cell : InCell rest (small.significand * 2 ^ 63) Y (2 ^ (large.exponent - small.exponent))
-  cell = rw (shifted, dropped) (cell_of (small.significand * 2 ^ 63) (2 ^ (large.exponent - small.exponent)) (pow_pos (large.exponent - small.exponent)))
+  cell = rw (shifted, dropped) (cell_of_is (small.significand * 2 ^ 63) (2 ^ (large.exponent - small.exponent)) (pow_pos (large.exponent - small.exponent)))
 
   sum_fits : large.significand * 2 ^ 63 + Y < 2 ^ 128
   sum_fits =

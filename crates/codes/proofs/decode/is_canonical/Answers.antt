@@ -1,0 +1,41 @@
+-- `codes::decode::is_canonical` meets its contract: the top bit, as the machine makes it, is 2^(precision − 1).
+use mathlib.Core.Path.{◌≡◌, ◌∙◌}
+use mathlib.Core.Bool.{Bool, true, false, not, beq, and-false, and-true}
+use Prim.Native.Nat.{◌-◌, ◌*◌, ◌%◌, ◌^◌}
+use native.Mathlib.Nat.{one-mul}
+use native.Mathlib.Omega.{arith}
+use lib.Dec.{leb, ltb, lit<}
+use lib.Ieee.{unlike}
+use lib.Pow.{shl_exact}
+use borrow.Author.Rules.{rules}
+use borrow.Author.Tests.{eq-eqb, ne_eqb, not-true, not-false}
+use Rattle.codes.specs.Codes.{is_canonical}
+use Rattle.codes.specs.Layout.{IsFormat}
+use Rattle.codes.specs.declared.code.Code.{Code}
+use Rattle.codes.specs.declared.code.Format.{Format}
+use Rattle.codes.proofs.decode.is_canonical.Goals as goal
+
+top_is : (f : Format) → IsFormat f → 1 * 2 ^ (f.precision - 1) % 2 ^ 64 ≡ 2 ^ (f.precision - 1)
+top_is f formed = shl_exact 1 (f.precision - 1) 64 (lit< tt) (omega (arith, formed.word_bits)) ∙ one-mul (2 ^ (f.precision - 1))
+
+-- so what the test of the top bit says
+tested : (f : Format) (c : Code) (t : Bool) → IsFormat f → unlike (leb (1 * 2 ^ (f.precision - 1) % 2 ^ 64) c.significand) (ltb 0 c.field) ≡ t
+    → beq (leb (2 ^ (f.precision - 1)) c.significand) (ltb 0 c.field) ≡ not t
+tested f c true formed h = rw (← top_is f formed) (not-true _ h)
+tested f c false formed h = rw (← top_is f formed) (not-false _ h)
+
+pub returns-then-has_top-is_normal : goal.returns-then-has_top-is_normal
+unfolding is_canonical
+returns-then-has_top-is_normal c = rw (tested _ c.args.code _ c.requires c.if-has_top-is_normal.true)
+
+pub returns-then-code-gt0 : goal.returns-then-code-gt0
+unfolding is_canonical
+returns-then-code-gt0 c =
+    let some = ne_eqb c.args.code.significand 0 (λ (z : c.args.code.significand ≡ 0). omega (arith, c.if-code-gt0.true)) in
+    rw (tested _ c.args.code _ c.requires c.if-has_top-is_normal.false, some, and-false c.args.code.negative)
+
+pub returns : goal.returns
+unfolding is_canonical
+returns c =
+    let none : c.args.code.significand ≡ 0 = omega (arith, c.if-code-gt0.false) in
+    rw (tested _ c.args.code _ c.requires c.if-has_top-is_normal.false, eq-eqb _ 0 none, and-true c.args.code.negative)

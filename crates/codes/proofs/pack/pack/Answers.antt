@@ -1,0 +1,20 @@
+-- `codes::pack::pack` meets its contract: the refusals in their order, and then the code that equals the number.
+use mathlib.Core.Path.{sym, ◌∙◌}
+use borrow.Author.Rules.{rules}
+use borrow.Author.Tests.{not-true, not-false}
+use Rattle.codes.proofs.Laws.Entries.{pack_unfit, pack_wrong_length, pack_code}
+use Rattle.codes.proofs.pack.pack.Goals as goal
+
+pub returns-then-not-fit : goal.returns-then-not-fit
+returns-then-not-fit c = pack_unfit _ _ _ (sym c.is_working-fit.ensures ∙ c.if-not-fit.true)
+
+pub returns-then-length-room : goal.returns-then-length-room
+returns-then-length-room c = pack_wrong_length _ _ _ (sym c.is_working-fit.ensures ∙ c.if-not-fit.false) c.if-length-room.true
+
+pub equal_code-requires : goal.equal_code-requires
+equal_code-requires c = (c.requires, sym c.is_working-fit.ensures ∙ c.if-not-fit.false)
+
+pub returns : goal.returns
+returns c =
+    let fit = sym c.is_working-fit.ensures ∙ c.if-not-fit.false in
+    pack_code _ _ _ fit c.requires c.if-length-room.false _ c.equal_code.ensures

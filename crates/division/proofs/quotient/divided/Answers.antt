@@ -1,0 +1,55 @@
+-- `division::quotient::divided` meets its contract: the quotient lies in the cell of its digits (Laws.Rounds). Zero over anything is zero.
+use Rattle.std.proofs.Common.{◌≡◌, false, sym, ap, ◌∙◌, w32, SFits, rules}
+use mathlib.Core.Bool.{false≢true}
+use Rattle.numbers.specs.Accuracy.{marked_answer, marked_by}
+use Rattle.numbers.specs.Fraction.{value, quotient}
+use Rattle.numbers.specs.declared.answer.Accuracy.TheVariants as accuracy
+use Rattle.numbers.specs.declared.answer.Answer.TheVariants.{Given}
+use Rattle.numbers.specs.declared.number.Number.{Number}
+use Rattle.numbers.specs.declared.number.Number.TheVariants.{Zero}
+use Rattle.numbers.specs.declared.task.Task.{Task}
+use Rattle.numbers.proofs.Laws.Fractions.{quotient_zero}
+use Rattle.numbers.proofs.Laws.Marked.{zero_mark}
+use Rattle.numbers.proofs.Laws.Scaled.{zero_value}
+use Rattle.division.specs.Quotient.{is_zero}
+use Rattle.division.proofs.Laws.Rounds.{both_significands, difference_fits, less_fits, exponent_is, quotient_rounds}
+use Rattle.division.proofs.quotient.divided.Goals as goal
+
+zero_dividend : (task : Task) (p d : Number) → p ≡ Zero → marked_answer (Given Zero accuracy.Exact) ≡ marked_by task (quotient (value p) (value d))
+unfolding marked_answer
+zero_dividend task p d is = rw is (sym (zero_mark task (quotient (value Zero) (value d)) (quotient_zero (value Zero) (value d) zero_value)))
+
+-- a divisor is not zero
+not_zero : (d : Number) → d ≡ Zero → is_zero d ≡ false → ⊥
+unfolding is_zero
+not_zero d is h = false≢true (sym h ∙ ap is_zero is)
+
+pub returns-in_default : goal.returns-in_default
+returns-in_default c = zero_dividend _ _ _ c.in_default.is
+
+pub returns-in_default-d : goal.returns-in_default-d
+returns-in_default-d c = absurd (not_zero _ c.in_default-d.is c.requires.2)
+
+pub digits_of-digits-requires : goal.digits_of-digits-requires
+digits_of-digits-requires c =
+    both_significands _ _ _ _ _ _ _ _ c.in-Finite.is c.in-Finite-d.is c.requires.0 c.requires.1
+
+pub overflow_sub-p_exponent : goal.overflow_sub-p_exponent
+overflow_sub-p_exponent c =
+    let p-fits : SFits w32 c.in-Finite.p_exponent = search rules in
+    let d-fits : SFits w32 c.in-Finite-d.d_exponent = search rules in
+    difference_fits _ _ _ _ _ _ _ _ c.in-Finite.is c.in-Finite-d.is c.requires.0 c.requires.1 p-fits d-fits
+
+pub overflow_sub-p_exponent-2 : goal.overflow_sub-p_exponent-2
+overflow_sub-p_exponent-2 c =
+    let p-fits : SFits w32 c.in-Finite.p_exponent = search rules in
+    let d-fits : SFits w32 c.in-Finite-d.d_exponent = search rules in
+    less_fits _ _ _ _ _ _ _ _ c.in-Finite.is c.in-Finite-d.is c.requires.0 c.requires.1 p-fits d-fits
+
+pub returns : goal.returns
+returns c =
+    let p-fits : SFits w32 c.in-Finite.p_exponent = search rules in
+    let d-fits : SFits w32 c.in-Finite-d.d_exponent = search rules in
+    c.round_cell.ensures.0
+    ∙ quotient_rounds _ _ _ _ _ _ _ _ c.in-Finite.is c.in-Finite-d.is c.requires.0 c.requires.1 _ _ c.digits_of-digits.ensures _ c.requires.3 _
+    (exponent_is _ _ _ _ _ _ _ _ c.in-Finite.is c.in-Finite-d.is c.requires.0 c.requires.1 p-fits d-fits)

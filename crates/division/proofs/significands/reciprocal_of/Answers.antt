@@ -1,0 +1,26 @@
+-- `division::significands::reciprocal_of` meets its contract: the seed is near, and each step is nearer (Laws.DigitWords).
+use Rattle.std.proofs.Common.{◌≡◌, ℕ, ◌*◌, ◌^◌, ap, rules}
+use Rattle.division.specs.Words.{IsSignificand, refined_word, HasProducts, IsReciprocalWord}
+use Rattle.division.proofs.Laws.Seeds.{entry_for}
+use Rattle.division.proofs.Laws.DigitWords.{rounded_up, seed_near, products, next, reciprocal_word}
+use Rattle.division.proofs.significands.reciprocal_of.Goals as goal
+
+module _ (D T : ℕ) (d : IsSignificand D) (entry : T ≡ entry_for D) where
+  first : HasProducts (rounded_up D) (T * 2 ^ 24)
+  first = rw entry (products D d (entry_for D * 2 ^ 24) (seed_near D d))
+
+  second : (x : ℕ) → x ≡ refined_word (rounded_up D) (T * 2 ^ 24) → HasProducts (rounded_up D) x
+  second x e = rw (e, entry) (products D d (refined_word (rounded_up D) (entry_for D * 2 ^ 24)) (next D d (entry_for D * 2 ^ 24) (seed_near D d)))
+
+  twice : (x y : ℕ) → x ≡ refined_word (rounded_up D) (T * 2 ^ 24) → y ≡ refined_word (rounded_up D) x → IsReciprocalWord D y
+  twice x y e f = rw (f, e) (reciprocal_word D d (T * 2 ^ 24) (ap (λ (n : ℕ). n * 2 ^ 24) entry))
+
+pub refined-once-requires : goal.refined-once-requires
+refined-once-requires c = first _ _ c.requires c.entry_for.ensures
+
+pub refined-requires : goal.refined-requires
+refined-requires c =
+    search (first _ _ c.requires c.entry_for.ensures, second _ _ c.requires c.entry_for.ensures _ c.refined-once.ensures)
+
+pub returns : goal.returns
+returns c = twice _ _ c.requires c.entry_for.ensures _ _ c.refined-once.ensures c.refined.ensures

@@ -1,0 +1,13 @@
+-- `text::text::Text::with_byte` meets its contract: a full text takes no more, and another has the byte behind what is written.
+use borrow.Author.Rules.{rules}
+use Rattle.text.specs.Text.{text_of}
+use Rattle.text.proofs.Laws.Cut.{full, stored}
+use Rattle.text.proofs.text.Text.with_byte.Goals as goal
+
+pub returns-then-at-ge-CAPACITY : goal.returns-then-at-ge-CAPACITY
+unfolding text_of
+returns-then-at-ge-CAPACITY c = full c.args.self.bytes c.args.self.length (search rules) _ c.if-at-ge-CAPACITY.true
+
+pub returns : goal.returns
+unfolding text_of
+returns c = stored c.args.self.bytes c.args.self.length (search rules) c.args.byte c.if-at-ge-CAPACITY.false

@@ -29,17 +29,17 @@ use Rattle.steps.specs.Steps.{line_of, line_of_both}
 
 -- an answer that is not Given is a refusal
 abbrev NotGiven : Answer → Type 0
-NotGiven a = OneOf (1 ∷ 2 ∷ 3 ∷ 4 ∷ 5 ∷ 6 ∷ []) (tag_of the_type a)
+NotGiven a = (x : Number) (mark : Accuracy) → a ≡ Given x mark → ⊥
 
 refusal : (a : Answer) → NotGiven a → (k : ℕ) × (outcome a ≡ refused k)
 unfolding marked_answer unmarked
-refusal (Given x mark) keys = absurd (miss (1 ∷ 2 ∷ 3 ∷ 4 ∷ 5 ∷ 6 ∷ []) 0 tt keys)
-refusal UnknownMode keys = (1, refl)
-refusal BadPrecision keys = (2, refl)
-refusal FirstUnfit keys = (3, refl)
-refusal SecondUnfit keys = (4, refl)
-refusal ExponentOutside keys = (7, refl)
-refusal TooManyBits keys = (8, refl)
+refusal (Given x mark) other = absurd (other x mark refl)
+refusal UnknownMode other = (1, refl)
+refusal BadPrecision other = (2, refl)
+refusal FirstUnfit other = (3, refl)
+refusal SecondUnfit other = (4, refl)
+refusal ExponentOutside other = (7, refl)
+refusal TooManyBits other = (8, refl)
 
 -- a result that is given is working
 pub as_given : (y : Outcome) (x : Number) → y ≡ given x → IsResult y → is_working x ≡ true
@@ -56,16 +56,16 @@ module _ (task : Task) where
   -- what is refused stays refused
   pub line_refused : (exact : Number → Fraction) (a : Answer) → NotGiven a → (outcome a ≡ line_of task exact (outcome a)) × IsResult (outcome a)
   unfolding IsResult line_of
-  line_refused exact a keys = let r = refusal a keys in rw r.1 (refl, tt)
+  line_refused exact a other = let r = refusal a other in rw r.1 (refl, tt)
 
   module _ (exact : Fraction → Fraction → Fraction) where
     pub first_refused : (a b : Answer) → NotGiven a → (outcome a ≡ line_of_both task exact (outcome a) (outcome b)) × IsResult (outcome a)
     unfolding IsResult line_of_both
-    first_refused a b keys = let r = refusal a keys in rw r.1 (refl, tt)
+    first_refused a b other = let r = refusal a other in rw r.1 (refl, tt)
 
     pub second_refused : (a b : Answer) (x : Number) (mark : Accuracy) → a ≡ Given x mark → NotGiven b → (outcome b ≡ line_of_both task exact (outcome a) (outcome b)) × IsResult (outcome b)
     unfolding IsResult line_of_both marked_answer unmarked
-    second_refused a b x mark is keys = let r = refusal b keys in rw (is, r.1) (refl, tt)
+    second_refused a b x mark is other = let r = refusal b other in rw (is, r.1) (refl, tt)
 
   -- what is given is the operation's
   module _ (fit_task : IsTask task) where

@@ -1,0 +1,22 @@
+-- `export::navehuro_divide` meets its contract: the outcome of the quotient is left, and a refusal before it leaves bytes and mark alone.
+use borrow.Author.Rules.{rules}
+use Rattle.export.proofs.Laws.Calls.{carried, call_by, numbers_room}
+use Rattle.export.proofs.navehuro_divide.Goals as goal
+
+pub leave-requires : goal.leave-requires
+leave-requires c =
+    numbers_room _ _ _ _ _ _ c.operands_in-operands.ensures c.in-Numbers.is
+
+pub returns-in-Numbers : goal.returns-in-Numbers
+unfolding carried
+returns-in-Numbers c =
+    rw (c.leave.ensures, c.quotient_outcome.ensures, c.divide.ensures)
+    (call_by _ _ _ _ _ _ _ c.operands_in-operands.ensures c.in-Numbers.is)
+
+pub returns-in-WrongLength : goal.returns-in-WrongLength
+unfolding carried
+returns-in-WrongLength c = call_by _ _ _ _ _ _ _ c.operands_in-operands.ensures c.in-WrongLength.is
+
+pub returns-in-NoNumber : goal.returns-in-NoNumber
+unfolding carried
+returns-in-NoNumber c = call_by _ _ _ _ _ _ _ c.operands_in-operands.ensures c.in-NoNumber.is

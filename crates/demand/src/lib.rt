@@ -2,4 +2,3 @@
 // that lists of calls have runs, proofs/Known.antt and proofs/KnownReports.antt the known values of
 // blocks, depots and reports.
 #![tactic(auto)]
-

@@ -10,12 +10,13 @@ mod operations;
 mod rounding;
 mod wanted;
 
+use lines::input::STDIN_FILENO;
 use lines::line;
 
 // Reads one line and prints its answer. False where no whole line is left.
 fn run_line() -> bool {
     let mut text = [0u8; line::WIDTH];
-    let got = io::read_full(libc::STDIN_FILENO, &mut text);
+    let got = io::read_full(STDIN_FILENO, &mut text);
     if got < line::WIDTH {
         return false;
     }

@@ -8,6 +8,7 @@ mod run;
 mod state;
 
 use depot::state::Depot;
+use lines::input::STDIN_FILENO;
 use lines::line;
 
 // What reading and running a line leaves.
@@ -20,7 +21,7 @@ enum Turn {
 // Reads one line and runs its call on the depot.
 fn run_line(depot: Depot) -> Turn {
     let mut text = [0u8; line::WIDTH];
-    let got = io::read_full(libc::STDIN_FILENO, &mut text);
+    let got = io::read_full(STDIN_FILENO, &mut text);
     if got < line::WIDTH {
         return Turn::Ended;
     }

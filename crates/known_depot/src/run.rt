@@ -3,7 +3,7 @@ use super::answer;
 use super::call::Call;
 use depot::rate::rate_of;
 use depot::state::Depot;
-use libc::STDIN_FILENO;
+use lines::input::STDIN_FILENO;
 
 // The most bytes that a line may offer: more than a block has.
 const MOST: usize = 1_024;

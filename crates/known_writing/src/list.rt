@@ -1,5 +1,5 @@
 // Reads a list from standard input: numbers of four bytes, the lowest byte first.
-use libc::STDIN_FILENO;
+use lines::input::STDIN_FILENO;
 
 // The next number of the input, or that it ended before.
 #[derive(Clone, Copy)]

@@ -12,6 +12,7 @@ mod load;
 mod output;
 mod run;
 
+use lines::input::STDIN_FILENO;
 use lines::line;
 use run::State;
 
@@ -34,7 +35,7 @@ fn run_line(list: &mut [u32; MOST_NUMBERS], output: &mut [u8; MOST_BYTES], state
     ensures { (result.state.numbers ≤ 20500) × (result.state.bytes ≤ 106496) }
 {
     let mut text = [0u8; line::WIDTH];
-    let got = io::read_full(libc::STDIN_FILENO, &mut text);
+    let got = io::read_full(STDIN_FILENO, &mut text);
     if got < line::WIDTH {
         return Turn { ended: true, state };
     }

@@ -3,6 +3,7 @@
 #![tactic(auto)]
 
 pub mod buffer;
+pub mod input;
 pub mod line;
 pub mod number;
 pub mod out;

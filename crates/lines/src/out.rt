@@ -1,6 +1,8 @@
 // Writes to standard output. A write that fails is left alone: the output is then short, and the
 // comparison with what is expected tells.
-use libc::STDOUT_FILENO;
+
+// The descriptor of standard output.
+const STDOUT_FILENO: i32 = 1;
 
 // Writes these bytes.
 pub fn bytes(text: &[u8]) {

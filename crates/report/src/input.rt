@@ -5,7 +5,7 @@ ghost use Rattle.report.specs.Program.{got_of, bytes_in, bytes_read, Decides};
 
 use super::awaited::{Awaited, Following};
 use blocks::judgement::BLOCK_BYTES;
-use libc::STDIN_FILENO;
+use std::io::{Read, Stdin};
 
 // How many bytes were read: all of the input, or as many as decide what is printed; or that a read failed.
 #[derive(Clone, Copy)]
@@ -34,14 +34,14 @@ enum Got {
 // Reads block by block into a buffer with room for 206 of them, up to the end of the input, or up to and
 // with the first block that a depot does not take, which is one of these 206. Whatever follows that block
 // changes nothing.
-pub(crate) fn read_blocks(buffer: &mut [u8]) -> Input
+pub(crate) fn read_blocks(stdin: &mut Stdin, buffer: &mut [u8]) -> Input
     requires { 105472 ≤ length buffer.old }
     ensures { IsPrefixLen (bytes_read result) buffer.new × Decides result buffer.new }
 {
     let mut awaited = Awaited::first();
     let mut count = 0;
     while buffer.len() - count >= BLOCK_BYTES {
-        let Piece::Read(size) = read(&mut buffer[count..count + BLOCK_BYTES]) else {
+        let Piece::Read(size) = read(stdin, &mut buffer[count..count + BLOCK_BYTES]) else {
             return Input::Failed;
         };
         count += size;
@@ -58,12 +58,12 @@ pub(crate) fn read_blocks(buffer: &mut [u8]) -> Input
 
 // Fills the buffer from its start, until it is full or the input ends. A read that brings less than was
 // asked for is followed by another.
-fn read(buffer: &mut [u8]) -> Piece
+fn read(stdin: &mut Stdin, buffer: &mut [u8]) -> Piece
     ensures { IsPrefixLen (bytes_in result) buffer.new }
 {
     let mut from = 0;
     while from < buffer.len() {
-        let answer = libc::read(STDIN_FILENO, &mut buffer[from..]);
+        let answer = read_once(stdin, &mut buffer[from..]);
         match got_of(answer, &buffer[from..]) {
             Got::Bytes(count) => from += count,
             Got::End => return Piece::Read(from),
@@ -71,6 +71,14 @@ fn read(buffer: &mut [u8]) -> Piece
         }
     }
     Piece::Read(from)
+}
+
+// One read of standard input: how many bytes it brought, or −1 where it failed.
+fn read_once(stdin: &mut Stdin, room: &mut [u8]) -> isize {
+    match stdin.read(room) {
+        Ok(count) => count as isize,
+        Err(_) => -1,
+    }
 }
 
 // What a read with this room answered: a failure is never taken for the end of the input.

@@ -13,9 +13,10 @@ use reporting::report::report_of;
 // follows that one changes nothing.
 const DECIDING: usize = 105_472;
 
-fn main() {
+fn main(rt: HostRuntime) {
+    let mut stdin = rt.stdin();
     let mut buffer = [0u8; DECIDING];
-    match input::read_blocks(&mut buffer) {
+    match input::read_blocks(&mut stdin, &mut buffer) {
         Input::Ended(count) => output::print(report_of(&buffer[..count])),
         Input::Decided(count) => output::print(report_of(&buffer[..count])),
         Input::Failed => output::complain(b"report: cannot read standard input\n"),

@@ -1,6 +1,10 @@
 // Writes the finished text, and what went wrong to standard error.
-use libc::{STDERR_FILENO, STDOUT_FILENO};
 use text::text::Text;
+
+// The descriptors of standard output and standard error.
+const STDOUT_FILENO: i32 = 1;
+
+const STDERR_FILENO: i32 = 2;
 
 // Writes the text to standard output by one call, and tells standard error where that fails.
 pub fn print(text: Text) {

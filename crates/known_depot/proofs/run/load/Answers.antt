@@ -8,4 +8,4 @@ pub slice_bounds-space-end : goal.slice_bounds-space-end
 slice_bounds-space-end c = search rules
 
 pub slice_bounds-load_read-end : goal.slice_bounds-load_read-end
-slice_bounds-load_read-end c = sym (length-take-le _ _ (slice_bounds-space-end (goal.at-slice_bounds-load_read-end c).Else-wanted-gt-MOST))
+slice_bounds-load_read-end c = sym (length-take-le _ _ (search rules))

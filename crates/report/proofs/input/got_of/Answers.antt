@@ -19,8 +19,8 @@ returns-then-answer-lt0 c = negative _ _ (as_read c.ranges.answer c.if-answer-lt
 
 pub returns-then-count-eq0 : goal.returns-then-count-eq0
 returns-then-count-eq0 c =
-    none_left _ c.if-count-eq0.true ∙ counted _ _ _ (as_read c.ranges.answer c.if-answer-lt0.false) (rw (to_z-of_z c.ranges.answer) at c.count-count.ensures.1)
+    none_left _ c.if-count-eq0.true ∙ counted _ _ _ (as_read c.ranges.answer c.if-answer-lt0.false) (rw (to_z-of_z c.ranges.answer) at c.count-count.ensures.value)
 
 pub returns : goal.returns
 returns c =
-    some_came _ c.if-count-eq0.false ∙ counted _ _ _ (as_read c.ranges.answer c.if-answer-lt0.false) (rw (to_z-of_z c.ranges.answer) at c.count-count.ensures.1)
+    some_came _ c.if-count-eq0.false ∙ counted _ _ _ (as_read c.ranges.answer c.if-answer-lt0.false) (rw (to_z-of_z c.ranges.answer) at c.count-count.ensures.value)

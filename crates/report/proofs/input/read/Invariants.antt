@@ -8,7 +8,7 @@ use Rattle.report.proofs.Laws.Got.{came, counts}
 use Rattle.report.proofs.input.read.Given as goal
 
 abbrev pub invariant-loop-from : goal.invariant-loop-from
-invariant-loop-from l = (l.from ≤ length l.buffer) × (length l.buffer ≡ length l.initial.stdin)
+invariant-loop-from l = (l.from ≤ length l.buffer) × (length l.buffer ≡ length l.initial.buffer)
 
 abbrev pub decreases-loop-from : goal.decreases-loop-from
 decreases-loop-from l = length l.buffer - l.from

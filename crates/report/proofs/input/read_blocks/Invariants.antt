@@ -11,7 +11,7 @@ use Rattle.report.proofs.Laws.Read.{AreRead, none_read, after_length, block_read
 use Rattle.report.proofs.input.read_blocks.Given as goal
 
 abbrev pub invariant-loop-buffer : goal.invariant-loop-buffer
-invariant-loop-buffer l = AreRead l.initial.stdin l.buffer l.awaited l.count
+invariant-loop-buffer l = AreRead l.initial.buffer l.buffer l.awaited l.count
 
 abbrev pub decreases-loop-buffer : goal.decreases-loop-buffer
 decreases-loop-buffer l = length l.buffer - l.count

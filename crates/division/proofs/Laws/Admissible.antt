@@ -1,5 +1,5 @@
 -- The operands of a division: an admissible number's parts, and that it is working.
-use Rattle.std.proofs.Common.{◌≡◌, ◌-◌, true, arith}
+use Rattle.std.proofs.Common.{◌≡◌, true, arith}
 use Rattle.numbers.specs.Biased.{bias}
 use Rattle.numbers.specs.Number.{is_admissible_exponent, is_working, is_admissible}
 use Rattle.numbers.specs.declared.number.Number.{Number}

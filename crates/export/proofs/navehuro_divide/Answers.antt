@@ -1,5 +1,4 @@
 -- `export::navehuro_divide` meets its contract: the outcome of the quotient is left, and a refusal before it leaves bytes and mark alone.
-use borrow.Author.Rules.{rules}
 use Rattle.export.proofs.Laws.Calls.{carried, call_by, numbers_room}
 use Rattle.export.proofs.navehuro_divide.Goals as goal
 

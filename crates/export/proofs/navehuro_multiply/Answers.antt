@@ -1,5 +1,4 @@
 -- `export::navehuro_multiply` meets its contract: the outcome of the product is left, and a refusal before it leaves bytes and mark alone.
-use borrow.Author.Rules.{rules}
 use Rattle.export.proofs.Laws.Calls.{carried, call_by, numbers_room}
 use Rattle.export.proofs.navehuro_multiply.Goals as goal
 

@@ -1,5 +1,4 @@
 -- `export_blocks::navehuro_write_blocks` meets its contract: what the writer leaves, with its row in the number.
-use borrow.Author.Rules.{rules}
 use Rattle.writing.specs.Written.{block_writing}
 use Rattle.export_blocks.specs.Calls.{call}
 use Rattle.export_blocks.proofs.navehuro_write_blocks.Goals as goal

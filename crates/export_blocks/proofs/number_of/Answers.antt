@@ -1,5 +1,4 @@
 -- `export_blocks::number_of` meets its contract, by the answer's case.
-use borrow.Author.Rules.{rules}
 use Rattle.writing.specs.Written.{block_writing_row}
 use Rattle.export_blocks.specs.Calls.{row_of_number}
 use Rattle.export_blocks.proofs.number_of.Goals as goal

@@ -1,5 +1,4 @@
 -- `known::main` is safe and ends: the measure is how many turns are left.
-use borrow.Author.Rules.{rules}
 use Rattle.known.proofs.main.Given as goal
 
 abbrev pub invariant-loop-turns : goal.invariant-loop-turns

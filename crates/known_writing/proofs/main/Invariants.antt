@@ -1,5 +1,5 @@
 -- `known_writing::main` is safe and ends: the list and the output have room for what is kept of them, and the measure is how many turns are left.
-use Rattle.std.proofs.Common.{◌≤◌, rules}
+use Rattle.std.proofs.Common.{◌≤◌}
 use Rattle.known_writing.proofs.main.Given as goal
 
 abbrev pub invariant-loop-turns : goal.invariant-loop-turns

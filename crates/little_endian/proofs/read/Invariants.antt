@@ -1,15 +1,9 @@
 -- `little_endian::read` meets its contract. The loop goes down: w is the number in the bytes from index i on, as far as a word has room for it.
-use borrow.Author.Rules.{rules}
-use mathlib.Core.Path.{◌≡◌, ap, ◌∙◌}
+use mathlib.Core.Path.{◌≡◌}
 use mathlib.Core.List.{List}
-use Prim.Native.Nat.{ℕ, suc, ◌+◌, ◌-◌, ◌*◌, ◌%◌, ◌^◌, ◌≤◌, ◌<◌}
-use native.Mathlib.Nat.{le_refl, le_of_lt}
-use native.Mathlib.Omega.{arith}
-use lib.Arith.{le-zero}
-use lib.ListN.{length, get_or, drop}
-use lib.Seq.{drop-length}
+use Prim.Native.Nat.{ℕ, ◌%◌, ◌^◌, ◌≤◌}
+use lib.ListN.{length, drop}
 use Rattle.little_endian.specs.Bytes.{little_endian}
-use Rattle.little_endian.proofs.Laws.Bytes.{read_more}
 use Rattle.little_endian.proofs.read.Given as goal
 
 -- the bytes from index i on hold w

@@ -1,12 +1,11 @@
 -- `little_endian::write` meets its contract. The loop goes up: the first i bytes are those of w, and `left` is what they do not hold.
-use borrow.Author.Rules.{rules}
 use mathlib.Core.Path.{◌≡◌, refl, sym, ap, ◌∙◌}
 use mathlib.Core.List.{List}
-use Prim.Native.Nat.{ℕ, ◌+◌, ◌-◌, ◌/◌, ◌%◌, ◌^◌, ◌≤◌, ◌<◌, zero-le}
+use Prim.Native.Nat.{ℕ, ◌+◌, ◌/◌, ◌%◌, ◌^◌, ◌≤◌, ◌<◌, zero-le}
 use native.Mathlib.Nat.{le_antisymm, div-one, div-div-eq-div-mul, pow-suc}
 use native.Mathlib.Numerals.{add-one, add-one-le}
 use native.Mathlib.Omega.{arith}
-use lib.ListN.{length, take, set, length-set}
+use lib.ListN.{length, set, length-set}
 use lib.Seq.{take_all, take-suc-set}
 use Rattle.little_endian.specs.Bytes.{bytes_of}
 use Rattle.little_endian.proofs.Laws.Bytes.{bytes_more}
@@ -24,7 +23,6 @@ next old w bytes left i a h = record {
   within = rw length-set (add-one-le h);
   holds = rw (bytes_more i w, add-one, take-suc-set bytes i (left % 256) h, a.holds, a.rest);
   rest = rw (a.rest, add-one, pow-suc) (div-div-eq-div-mul w (256 ^ i) 256);
-
 }
 
 ends : (old : List ℕ) (w : ℕ) (bytes : List ℕ) (left i : ℕ) → Written old w bytes left i → length bytes ≤ i → bytes ≡ bytes_of (length old) w

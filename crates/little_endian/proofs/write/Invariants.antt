@@ -1,15 +1,9 @@
 -- `little_endian::write` meets its contract. The loop goes up: the first i bytes are those of w, and `left` is what they do not hold.
-use borrow.Author.Rules.{rules}
-use mathlib.Core.Path.{◌≡◌, refl, sym, ap, ◌∙◌}
+use mathlib.Core.Path.{◌≡◌}
 use mathlib.Core.List.{List}
-use Prim.Native.Nat.{ℕ, ◌+◌, ◌-◌, ◌/◌, ◌%◌, ◌^◌, ◌≤◌, ◌<◌, zero-le}
-use native.Mathlib.Nat.{le_antisymm, div-one, div-div-eq-div-mul, pow-suc}
-use native.Mathlib.Numerals.{add-one, add-one-le}
-use native.Mathlib.Omega.{arith}
-use lib.ListN.{length, take, set, length-set}
-use lib.Seq.{take_all, take-suc-set}
+use Prim.Native.Nat.{ℕ, ◌-◌, ◌/◌, ◌^◌, ◌≤◌}
+use lib.ListN.{length, take}
 use Rattle.little_endian.specs.Bytes.{bytes_of}
-use Rattle.little_endian.proofs.Laws.Bytes.{bytes_more}
 use Rattle.little_endian.proofs.write.Given as goal
 
 -- i bytes of w are written over the old ones

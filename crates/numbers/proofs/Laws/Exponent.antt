@@ -2,12 +2,12 @@
 -- everything is decided among the naturals.
 use mathlib.Core.Path.{◌≡◌, refl, ap, ◌∙◌}
 use mathlib.Core.Logic.{◌⊎◌, inl, inr, ⊎_elim}
-use Prim.Native.Nat.{ℕ, zero, suc, ◌+◌, ◌*◌, ◌-◌, ◌^◌, ◌≤◌, ◌<◌}
+use Prim.Native.Nat.{ℕ, zero, suc, ◌+◌, ◌*◌, ◌^◌, ◌≤◌, ◌<◌}
 use native.Mathlib.Omega.{arith}
 use native.Mathlib.Nat.{mul-pos, mul-le-mul_right, mul-lt-mul_of_pos_right, le_of_lt, lt_of_lt_of_le, lt_of_le_of_lt, lt_of_mul-lt-mul_right, le_of_mul-le-mul_right, lt_of_not-le, pow-succ'}
 use native.Mathlib.Decide.{dec_le}
 use lib.IntN.{ℤ, pos, negsuc, suc_ℤ}
-use lib.Dec.{leb, leb-zero, leb-suc-zero}
+use lib.Dec.{leb-zero, leb-suc-zero}
 use lib.Pow.{pow-add, pow_pos}
 use lib.Ieee.{size, up, down, minus}
 use lib.Ieee.Digits.{size-lt, size_reaches, minus_val}

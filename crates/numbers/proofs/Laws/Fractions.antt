@@ -6,7 +6,7 @@ use native.Mathlib.Nat.{add-mul, le_antisymm, le_refl, mul_comm, mul_assoc, mul-
 use native.Mathlib.Omega.{arith}
 use borrow.Author.Tests.{leb-true, le-leb}
 use lib.Ieee.{unlike}
-use lib.IntN.{ℤ, pos, negsuc, neg_ℤ, neg_ℤ-neg_ℤ, nat_abs, +ℤ_comm, zero-*ℤ, ◌+ℤ◌, ◌*ℤ◌}
+use lib.IntN.{ℤ, pos, negsuc, neg_ℤ, neg_ℤ-neg_ℤ, nat_abs, +ℤ_comm, zero-*ℤ, ◌*ℤ◌}
 use Rattle.numbers.specs.Fraction.{Fraction, IsFraction, Equal, is_equal, signed, is_negative, sum, difference, product, divided_by, quotient}
 use Rattle.numbers.proofs.Laws.Pairs.{fraction, own_pair, signed_pair, fraction_pair, one_fraction, equal_pair, sum_pair, difference_pair, product_pair}
 use Rattle.numbers.proofs.Laws.Signs.{abs_signed, negative_signed, signed_abs, abs_zero}

@@ -1,10 +1,7 @@
 -- A line worked out on answers: what is refused stays refused, and what is given is the operation's, for operands that are working.
 use mathlib.Core.Path.{◌≡◌, refl, sym, subst, ap, ◌∙◌}
 use mathlib.Core.Bool.{true}
-use mathlib.Core.List.{[], ◌∷◌}
 use Prim.Native.Nat.{ℕ}
-use denote.Enum.Declared.{tag_of}
-use types.Run.{OneOf, miss}
 use Rattle.numbers.specs.Accuracy.{marked, marked_answer, unmarked, outcome}
 use Rattle.numbers.specs.Answer.{Outcome, given, refused, rounded}
 use Rattle.numbers.specs.Fraction.{Fraction, IsFraction, value}
@@ -19,7 +16,6 @@ use Rattle.numbers.proofs.Laws.Scaled.{value_fraction}
 use Rattle.numbers.proofs.Laws.Fits.{given_working}
 use Rattle.numbers.proofs.Laws.Marked.{unmark}
 use Rattle.numbers.proofs.Laws.Refusals.{range_precision, first_fit, none_unfit}
-use Rattle.numbers.specs.contracts.answer.Answer.{the_type}
 use Rattle.arithmetic.specs.Operations.{exact_of, operation_of, rounding_of}
 use Rattle.arithmetic.specs.declared.operation.Operation.{Operation}
 use Rattle.arithmetic.proofs.Laws.Operations.{exact_fraction}

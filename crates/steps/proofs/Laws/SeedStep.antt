@@ -4,7 +4,7 @@ use mathlib.Core.Bool.{Bool, false}
 use Prim.Native.Nat.{ℕ, ◌+◌, ◌*◌, ◌^◌, ◌≤◌, ◌<◌}
 use native.Mathlib.Nat.{mul-lt-mul_of_pos_right, mul-one, mul-pos, one-mul}
 use native.Mathlib.Omega.{arith}
-use lib.Dec.{ltb, lit≤, lit<, lt→ltb}
+use lib.Dec.{lit≤, lit<, lt→ltb}
 use lib.Ieee.{minus, up, down}
 use lib.Ieee.Digits.{minus_val}
 use lib.Ieee.Fits.{down_pos, up_pos}

@@ -1,6 +1,5 @@
 -- `arithmetic::judgement::judged` meets its contract: each refusal has the tests before it behind it.
-use Rattle.std.proofs.Common.{◌≡◌, true, sym, ◌∙◌, rules}
-use borrow.Author.Tests.{not-true, not-false}
+use Rattle.std.proofs.Common.{◌≡◌, true, sym, ◌∙◌}
 use Rattle.numbers.specs.Number.{is_working}
 use Rattle.numbers.specs.Rounding.{is_precision}
 use Rattle.numbers.proofs.Laws.Refusals.{bad_precision, first_unfit, second_unfit}

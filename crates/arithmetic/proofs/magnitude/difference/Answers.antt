@@ -1,5 +1,5 @@
 -- `arithmetic::magnitude::difference` meets its contract. The low words borrow 1 from the high ones where a's is below b's.
-use Rattle.std.proofs.Common.{arith, rules}
+use Rattle.std.proofs.Common.{arith}
 use native.Mathlib.Nat.{sub-pos_iff_lt}
 use Rattle.numbers.proofs.Laws.Wide.{wide_sum, wide_le, wide_lt}
 use Rattle.arithmetic.proofs.magnitude.difference.Goals as goal

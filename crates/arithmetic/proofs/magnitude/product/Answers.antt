@@ -1,5 +1,5 @@
 -- `arithmetic::magnitude::product` meets its contract. Each product of two halves leaves room for two carries, so no column wraps, and the columns make up the product.
-use Rattle.std.proofs.Common.{ℕ, ◌+◌, ◌*◌, ◌/◌, ◌%◌, ◌^◌, ◌<◌, ◌≤◌, ap₂, arith, rules}
+use Rattle.std.proofs.Common.{ℕ, ◌+◌, ◌*◌, ◌/◌, ◌%◌, ◌^◌, ◌<◌, ◌≤◌, ap₂, arith}
 use lib.Pow.{split}
 use Rattle.numbers.specs.Cell.{wide}
 use Rattle.numbers.proofs.Laws.Words.{digits_product}

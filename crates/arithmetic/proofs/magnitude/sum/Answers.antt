@@ -1,5 +1,5 @@
 -- `arithmetic::magnitude::sum` meets its contract. The low words carry 1 where their wrapped sum is below one of them.
-use Rattle.std.proofs.Common.{sym, refl, add-zero, arith, rules}
+use Rattle.std.proofs.Common.{sym, refl, add-zero, arith}
 use mir.Facts.{Fits-of_lt}
 use Rattle.numbers.proofs.Laws.Wide.{wide_sum, wide_high}
 use Rattle.arithmetic.proofs.magnitude.sum.Goals as goal

@@ -1,5 +1,5 @@
 -- `arithmetic::operation::add` meets its contract: the rows in their order, and then the exact sum, rounded.
-use Rattle.std.proofs.Common.{arith, rules}
+use Rattle.std.proofs.Common.{arith}
 use Rattle.numbers.specs.Accuracy.{marked_answer}
 use Rattle.numbers.specs.Fraction.{sum}
 use Rattle.numbers.proofs.Laws.Fits.{zero_working}

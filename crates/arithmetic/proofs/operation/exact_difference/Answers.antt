@@ -1,5 +1,5 @@
 -- `arithmetic::operation::exact_difference` meets its contract: a − b is a + (−b).
-use Rattle.std.proofs.Common.{◌≡◌, true, ap, ◌∙◌, rules}
+use Rattle.std.proofs.Common.{◌≡◌, true, ap, ◌∙◌}
 use Rattle.numbers.specs.Fraction.{value, sum, difference}
 use Rattle.numbers.specs.Number.{is_working, negated}
 use Rattle.numbers.specs.declared.number.Number.{Number}

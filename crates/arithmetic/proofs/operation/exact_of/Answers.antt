@@ -1,5 +1,4 @@
 -- `arithmetic::operation::exact_of` meets its contract, by the three operations.
-use Rattle.std.proofs.Common.{rules}
 use Rattle.arithmetic.proofs.operation.exact_of.Goals as goal
 
 pub returns-in-Sum : goal.returns-in-Sum

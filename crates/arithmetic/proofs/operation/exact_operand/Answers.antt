@@ -1,5 +1,5 @@
 -- `arithmetic::operation::exact_operand` meets its contract: the significand is the low word of a magnitude.
-use Rattle.std.proofs.Common.{◌≡◌, ℕ, ◌+◌, ◌≤◌, false, ap, arith, rules}
+use Rattle.std.proofs.Common.{◌≡◌, ℕ, ◌+◌, ◌≤◌, false, ap, arith}
 use Rattle.numbers.specs.Accuracy.{marked_by}
 use Rattle.numbers.specs.Cell.{wide, end_of}
 use Rattle.numbers.specs.Rounding.{precision_of}
@@ -20,7 +20,6 @@ answers a is = record {
   biased = omega (arith, is.biased);
   rounds = λ (task : Task) (n0 : 1 ≤ precision_of task) (n1 : precision_of task ≤ 64).
       ap (λ (F : ℕ). marked_by task (scaled a.negative F (a.exponent + 65598) last_bit)) (low_alone a.significand);
-
 }
 
 pub returns : goal.returns

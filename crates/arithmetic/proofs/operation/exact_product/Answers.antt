@@ -1,5 +1,4 @@
 -- `arithmetic::operation::exact_product` meets its contract: the operands have the numbers' values.
-use Rattle.std.proofs.Common.{rules}
 use Rattle.numbers.specs.Fraction.{Equal, value, product}
 use Rattle.numbers.specs.declared.number.Number.{Number}
 use Rattle.numbers.proofs.Laws.Scaled.{value_fraction}

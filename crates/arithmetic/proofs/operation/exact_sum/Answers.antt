@@ -1,5 +1,4 @@
 -- `arithmetic::operation::exact_sum` meets its contract: the operands have the numbers' values.
-use Rattle.std.proofs.Common.{rules}
 use Rattle.arithmetic.proofs.Laws.Entries.{sum_same}
 use Rattle.arithmetic.proofs.operation.exact_sum.Goals as goal
 

@@ -1,5 +1,5 @@
 -- `arithmetic::operation::multiply` meets its contract: the rows in their order, and then the exact product, rounded.
-use Rattle.std.proofs.Common.{arith, rules}
+use Rattle.std.proofs.Common.{arith}
 use Rattle.numbers.specs.Accuracy.{marked_answer}
 use Rattle.numbers.specs.Fraction.{product}
 use Rattle.arithmetic.specs.Operations.{product_of}

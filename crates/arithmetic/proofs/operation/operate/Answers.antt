@@ -1,5 +1,4 @@
 -- `arithmetic::operation::operate` meets its contract: the rows in their order, and then the exact value, rounded.
-use Rattle.std.proofs.Common.{rules}
 use Rattle.numbers.specs.Accuracy.{marked_answer}
 use Rattle.arithmetic.specs.Operations.{exact_of}
 use Rattle.arithmetic.specs.Private.{IsJudged}

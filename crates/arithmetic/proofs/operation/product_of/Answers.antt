@@ -1,5 +1,5 @@
 -- `arithmetic::operation::product_of` meets its contract: the significands' product at the exponents' sum has the value of the operands' product.
-use Rattle.std.proofs.Common.{◌≡◌, ℕ, ◌+◌, ◌*◌, ◌≤◌, false, sym, arith, pow_pos, rules}
+use Rattle.std.proofs.Common.{◌≡◌, ℕ, ◌+◌, ◌*◌, ◌≤◌, false, sym, arith, pow_pos}
 use lib.Ieee.{unlike}
 use Rattle.numbers.specs.Rounding.{precision_of}
 use Rattle.numbers.specs.Fraction.{product, scaled}

@@ -1,6 +1,5 @@
 -- `arithmetic::operation::round` meets its contract: rows 2 and 3, and then the operand, which has the number's value.
-use Rattle.std.proofs.Common.{◌≡◌, ◌≤◌, true, sym, ap, ◌∙◌, rules}
-use borrow.Author.Tests.{not-true, not-false}
+use Rattle.std.proofs.Common.{◌≡◌, ◌≤◌, true, sym, ap, ◌∙◌}
 use Rattle.numbers.specs.Accuracy.{Marked, marked, marked_answer, marked_by}
 use Rattle.numbers.specs.Fraction.{Equal, value}
 use Rattle.numbers.specs.Number.{is_working}

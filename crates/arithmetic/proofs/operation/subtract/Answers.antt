@@ -1,5 +1,5 @@
 -- `arithmetic::operation::subtract` meets its contract: the rows in their order, and then the exact difference, rounded.
-use Rattle.std.proofs.Common.{arith, rules}
+use Rattle.std.proofs.Common.{arith}
 use Rattle.numbers.specs.Accuracy.{marked_answer}
 use Rattle.numbers.specs.Fraction.{difference}
 use Rattle.arithmetic.specs.Operations.{difference_of}

@@ -1,5 +1,5 @@
 -- `arithmetic::rounding::rounded` meets its contract: 2^(x − 131,196) is 2^x / 2^131,196.
-use Rattle.std.proofs.Common.{◌≡◌, ℕ, ◌≤◌, Bool, ℤ, pos, ◌-ℤ◌, sym, ap, ◌∙◌, arith, to_z-of_z, w32, SFits, to_z, of_z, rules}
+use Rattle.std.proofs.Common.{◌≡◌, ℕ, ◌≤◌, Bool, ℤ, pos, ◌-ℤ◌, sym, ap, ◌∙◌, arith, to_z-of_z, w32, SFits, to_z, of_z}
 use lib.Ieee.{minus}
 use mir.Facts.{to_z_pos}
 use Rattle.numbers.specs.Accuracy.{marked_by}

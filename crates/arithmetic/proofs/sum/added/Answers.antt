@@ -1,5 +1,4 @@
 -- `arithmetic::sum::added` meets its contract: Laws.Aligned takes the callees' equations to the answer.
-use Rattle.std.proofs.Common.{rules}
 use Rattle.arithmetic.proofs.Laws.Aligned.{added_fits, added_answer}
 use Rattle.arithmetic.proofs.sum.added.Goals as goal
 

@@ -1,5 +1,5 @@
 -- `arithmetic::sum::aligned` meets its contract: the two signs are the same, or one is the other's negated.
-use Rattle.std.proofs.Common.{◌≡◌, Bool, true, false, not, refl, rules}
+use Rattle.std.proofs.Common.{◌≡◌, Bool, true, false, not, refl}
 use mathlib.Core.Bool.{beq}
 use Rattle.numbers.proofs.Laws.Tests.{never}
 use Rattle.arithmetic.proofs.sum.aligned.Goals as goal

@@ -1,5 +1,4 @@
 -- `arithmetic::sum::subtracted` meets its contract: Laws.Aligned takes the callees' equations to the answer.
-use Rattle.std.proofs.Common.{rules}
 use Rattle.arithmetic.proofs.Laws.Aligned.{subtracted_fits, borrowed_fits, subtracted_answer}
 use Rattle.arithmetic.proofs.sum.subtracted.Goals as goal
 

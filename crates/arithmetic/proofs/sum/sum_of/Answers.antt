@@ -1,5 +1,4 @@
 -- `arithmetic::sum::sum_of` meets its contract: the larger operand is put first, and the sum stays the same.
-use Rattle.std.proofs.Common.{rules}
 use Rattle.arithmetic.proofs.sum.sum_of.Goals as goal
 
 pub aligned-requires : goal.aligned-requires

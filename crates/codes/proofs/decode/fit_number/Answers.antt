@@ -1,11 +1,7 @@
 -- `codes::decode::fit_number` meets its contract: a number that was decoded is normalized, and a refusal is returned as it is.
 use mathlib.Core.Path.{◌≡◌, refl, sym, ap, ◌∙◌}
 use mathlib.Core.Bool.{true}
-use mathlib.Core.List.{[], ◌∷◌}
 use native.Mathlib.Omega.{arith}
-use denote.Enum.Declared.{tag_of}
-use types.Run.{OneOf, miss}
-use borrow.Author.Rules.{rules}
 use Rattle.numbers.specs.Answer.{given}
 use Rattle.numbers.specs.declared.number.Number.{Number}
 use Rattle.numbers.proofs.Laws.Bias.{between}
@@ -17,7 +13,6 @@ use Rattle.codes.specs.declared.code.Decoding.{Decoding}
 use Rattle.codes.specs.declared.code.Decoding.TheVariants.{Given, AllOnes, Noncanonical}
 use Rattle.codes.proofs.Laws.Places.{counted_is}
 use Rattle.codes.proofs.Laws.Parts.{judged_given, judged_refused}
-use Rattle.codes.specs.contracts.code.Decoding.{the_type}
 use Rattle.codes.proofs.decode.fit_number.Goals as goal
 
 -- a refusal does not depend on the number

@@ -7,7 +7,6 @@ use native.Mathlib.Omega.{arith}
 use lib.Dec.{leb, ltb, lit<}
 use lib.Ieee.{unlike}
 use lib.Pow.{shl_exact}
-use borrow.Author.Rules.{rules}
 use borrow.Author.Tests.{eq-eqb, ne_eqb, not-true, not-false}
 use Rattle.codes.specs.Codes.{is_canonical}
 use Rattle.codes.specs.Layout.{IsFormat}

@@ -1,5 +1,4 @@
 -- `codes::decode::reading_of` meets its contract: each case has the reading's of the same number.
-use borrow.Author.Rules.{rules}
 use Rattle.codes.specs.Codes.{decoding, reading}
 use Rattle.codes.proofs.decode.reading_of.Goals as goal
 

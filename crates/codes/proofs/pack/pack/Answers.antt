@@ -1,7 +1,5 @@
 -- `codes::pack::pack` meets its contract: the refusals in their order, and then the code that equals the number.
 use mathlib.Core.Path.{sym, ◌∙◌}
-use borrow.Author.Rules.{rules}
-use borrow.Author.Tests.{not-true, not-false}
 use Rattle.codes.proofs.Laws.Entries.{pack_unfit, pack_wrong_length, pack_code}
 use Rattle.codes.proofs.pack.pack.Goals as goal
 

@@ -10,7 +10,6 @@ use lib.Dec.{T, leb}
 use mir.Facts.{to_z-of_z, to_z_pos}
 use mir.Syntax.{w32}
 use mir.Val.{SFits, Fits, to_z, of_z}
-use borrow.Author.Rules.{rules}
 use borrow.Author.Tests.{leb-true, leb-false}
 use Rattle.numbers.specs.Biased.{bias, highest_biased}
 use Rattle.numbers.specs.Number.{is_working_exponent}

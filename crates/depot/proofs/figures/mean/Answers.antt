@@ -1,6 +1,5 @@
 -- `depot::figures::mean` meets its contract: a fit sum divided by a count is never refused.
 use native.Mathlib.Omega.{arith}
-use borrow.Author.Rules.{rules}
 use Rattle.depot.specs.Figures.{mean_of}
 use Rattle.depot.specs.Room.{mode_of}
 use Rattle.depot.proofs.Laws.Room.{IsQuotientOf, quotient_same, quotient_refused, mean_given}

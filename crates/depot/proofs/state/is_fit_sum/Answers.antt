@@ -1,7 +1,5 @@
 -- `depot::state::is_fit_sum` meets its contract: the fit test between the two ends, and then the sign.
 use mathlib.Core.Path.{◌≡◌}
-use borrow.Author.Rules.{rules}
-use borrow.Author.Tests.{not-true, not-false}
 use lib.IntN.{pos, neg_ℤ}
 use Rattle.numbers.specs.Number.{is_between, is_fit}
 use Rattle.depot.specs.Depot.{is_negative_number, is_fit_sum}

@@ -1,5 +1,4 @@
 -- `division::judgement::is_zero` meets its contract: it is zero in one arm, and not in the other.
-use Rattle.std.proofs.Common.{rules}
 use Rattle.division.specs.Quotient.{is_zero}
 use Rattle.division.proofs.judgement.is_zero.Goals as goal
 

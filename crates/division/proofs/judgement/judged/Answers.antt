@@ -1,6 +1,5 @@
 -- `division::judgement::judged` meets its contract: each refusal has the tests before it behind it, and past them all the pair is divided.
-use Rattle.std.proofs.Common.{◌≡◌, true, false, sym, ◌∙◌, arith, rules}
-use borrow.Author.Tests.{not-true, not-false}
+use Rattle.std.proofs.Common.{◌≡◌, true, false, sym, ◌∙◌, arith}
 use Rattle.numbers.specs.Number.{is_admissible}
 use Rattle.numbers.specs.Rounding.{is_precision}
 use Rattle.division.specs.Quotient.{is_zero}

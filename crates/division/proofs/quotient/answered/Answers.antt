@@ -1,13 +1,10 @@
 -- `division::quotient::answered` meets its contract: the answer is a number, which is passed on with its mark.
 use Rattle.std.proofs.Common.{◌≡◌, refl}
-use denote.Enum.Declared.{tag_of}
-use types.Run.{OneOf, miss}
 use Rattle.numbers.specs.Accuracy.{marked_as, refused_by, marked_answer, unmarked, outcome}
 use Rattle.numbers.specs.declared.answer.Accuracy.{Accuracy}
 use Rattle.numbers.specs.declared.answer.Answer.{Answer}
 use Rattle.numbers.specs.declared.answer.Answer.TheVariants.{Given, UnknownMode, BadPrecision, FirstUnfit, SecondUnfit, ExponentOutside, TooManyBits}
 use Rattle.numbers.specs.declared.number.Number.{Number}
-use Rattle.numbers.specs.contracts.answer.Answer.{the_type}
 use Rattle.division.specs.Quotient.{marked_quotient}
 use Rattle.division.specs.Words.{IsGiven}
 use Rattle.division.proofs.quotient.answered.Goals as goal

@@ -1,5 +1,5 @@
 -- `division::quotient::divide` meets its contract: a row that refuses is passed on, and with none the rounded quotient is, which is a number (Laws.Rounds).
-use Rattle.std.proofs.Common.{◌≡◌, ℕ, sym, ap, ◌∙◌, rules}
+use Rattle.std.proofs.Common.{◌≡◌, ℕ, sym, ap, ◌∙◌}
 use Rattle.numbers.specs.Accuracy.{Marked, marked, marked_by, unmarked}
 use Rattle.numbers.specs.Answer.{rounded}
 use Rattle.numbers.specs.Fraction.{Fraction, value, quotient}

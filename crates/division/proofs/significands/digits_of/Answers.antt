@@ -1,5 +1,5 @@
 -- `division::significands::digits_of` meets its contract: the remainder after a digit is the next one's (Laws.DigitWords).
-use Rattle.std.proofs.Common.{arith, rules}
+use Rattle.std.proofs.Common.{arith}
 use Rattle.division.proofs.Laws.DigitWords.{digit_bits, joined}
 use Rattle.division.proofs.significands.digits_of.Goals as goal
 

@@ -1,5 +1,5 @@
 -- `division::significands::next_digit` meets its contract: the estimate is the digit or one less, and what is left is exact in two halves (Laws.DigitWords).
-use Rattle.std.proofs.Common.{◌≡◌, ℕ, ◌+◌, ◌-◌, ◌*◌, ◌/◌, ◌%◌, ◌^◌, ◌<◌, ◌≤◌, Bool, true, false, ltb, refl, arith, rules}
+use Rattle.std.proofs.Common.{◌≡◌, ℕ, ◌+◌, ◌-◌, ◌*◌, ◌/◌, ◌%◌, ◌^◌, ◌<◌, ◌≤◌, Bool, true, false, ltb, refl, arith}
 use mir.Facts.{Fits-of_lt}
 use mir.Val.{bool_byte}
 use Rattle.division.specs.Words.{IsSignificand, IsReciprocalWord, IsQuotient}

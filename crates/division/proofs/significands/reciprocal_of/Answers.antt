@@ -1,5 +1,5 @@
 -- `division::significands::reciprocal_of` meets its contract: the seed is near, and each step is nearer (Laws.DigitWords).
-use Rattle.std.proofs.Common.{◌≡◌, ℕ, ◌*◌, ◌^◌, ap, rules}
+use Rattle.std.proofs.Common.{◌≡◌, ℕ, ◌*◌, ◌^◌, ap}
 use Rattle.division.specs.Words.{IsSignificand, refined_word, HasProducts, IsReciprocalWord}
 use Rattle.division.proofs.Laws.Seeds.{entry_for}
 use Rattle.division.proofs.Laws.DigitWords.{rounded_up, seed_near, products, next, reciprocal_word}

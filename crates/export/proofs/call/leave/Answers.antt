@@ -1,5 +1,4 @@
 -- `export::call::leave` meets its contract: a number is put into the bytes and its accuracy beside them, and a refusal leaves both alone.
-use borrow.Author.Rules.{rules}
 use mir.Facts.{to_z-of_z}
 use Rattle.export.specs.Calls.{left_by}
 use Rattle.export.specs.Enums.{outcome_of}

@@ -1,6 +1,5 @@
 -- `export::call::operands_in` meets its contract: each way out has the tests of `operands_of` behind it.
 use mathlib.Core.Path.{◌≡◌, sym, ◌∙◌}
-use borrow.Author.Rules.{rules}
 use borrow.Author.Tests.{eq-eqb, ne_eqb}
 use Rattle.export.specs.Calls.{is_sixteen}
 use Rattle.export.specs.Layout.{number_in}

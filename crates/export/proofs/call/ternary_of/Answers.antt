@@ -1,5 +1,4 @@
 -- `export::call::ternary_of` meets its contract, by the accuracy's case.
-use borrow.Author.Rules.{rules}
 use Rattle.export.specs.Calls.{ternary_of}
 use Rattle.export.proofs.call.ternary_of.Goals as goal
 

@@ -1,5 +1,4 @@
 -- `export::layout::exponent_in` meets its contract: what the machine has of a word less 2^32 is the negative exponent.
-use borrow.Author.Rules.{rules}
 use mathlib.Core.Path.{◌≡◌, sym, ap, ◌∙◌}
 use Prim.Native.Nat.{ℕ, suc, ◌-◌, ◌^◌, ◌≤◌, ◌<◌}
 use native.Mathlib.Omega.{arith}

@@ -1,5 +1,4 @@
 -- `export::layout::read` meets its contract: the two words hold the fields of the number.
-use borrow.Author.Rules.{rules}
 use mathlib.Core.Path.{sym}
 use Prim.Native.Nat.{ℕ}
 use lib.Dec.{lit≤}

@@ -1,5 +1,4 @@
 -- `export::layout::read_word` meets its contract: each byte is below 256, so no product or sum overflows, and each stands at its place.
-use borrow.Author.Rules.{rules}
 use Rattle.export.proofs.Laws.Words.{eight_read}
 use Rattle.export.proofs.layout.read_word.Goals as goal
 

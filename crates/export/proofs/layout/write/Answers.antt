@@ -1,5 +1,4 @@
 -- `export::layout::write` meets its contract: the two words of a number fill the sixteen bytes.
-use borrow.Author.Rules.{rules}
 use mathlib.Core.Path.{refl, sym, ◌∙◌}
 use lib.Dec.{lit≤}
 use lib.ListN.{drop}

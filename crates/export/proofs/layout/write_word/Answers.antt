@@ -1,5 +1,4 @@
 -- `export::layout::write_word` meets its contract: each byte of the word is stored at its place.
-use borrow.Author.Rules.{rules}
 use native.Mathlib.Omega.{arith}
 use lib.ListN.{length-set}
 use Rattle.export.proofs.Laws.Words.{eight_written}

@@ -1,7 +1,6 @@
 -- `known::formats::run_at` is safe: the part of the array that is lent has the length found in the line.
 use mathlib.Core.Path.{sym}
 use lib.Seq.{length-take-le}
-use borrow.Author.Rules.{rules}
 use Rattle.known.proofs.formats.run_at.Goals as goal
 
 pub slice_bounds-content-end : goal.slice_bounds-content-end

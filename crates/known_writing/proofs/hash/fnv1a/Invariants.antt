@@ -1,5 +1,5 @@
 -- `known_writing::hash::fnv1a` is safe and ends: the measure is how many bytes are left.
-use Rattle.std.proofs.Common.{◌-◌, length, rules}
+use Rattle.std.proofs.Common.{◌-◌, length}
 use Rattle.known_writing.proofs.hash.fnv1a.Given as goal
 
 abbrev pub invariant-loop-i : goal.invariant-loop-i

@@ -1,5 +1,5 @@
 -- `known_writing::list::read` is safe and ends: the measure is how many numbers are left to read.
-use Rattle.std.proofs.Common.{◌≡◌, ◌-◌, length, rules}
+use Rattle.std.proofs.Common.{◌≡◌, ◌-◌, length}
 use Rattle.known_writing.proofs.list.read.Given as goal
 
 abbrev pub invariant-loop-i : goal.invariant-loop-i

@@ -1,5 +1,5 @@
 -- `known_writing::output::fill` is safe and ends: the measure is how many bytes are left to fill.
-use Rattle.std.proofs.Common.{◌≡◌, ◌-◌, length, rules}
+use Rattle.std.proofs.Common.{◌≡◌, ◌-◌, length}
 use Rattle.known_writing.proofs.output.fill.Given as goal
 
 abbrev pub invariant-loop-i : goal.invariant-loop-i

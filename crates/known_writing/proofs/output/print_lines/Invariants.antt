@@ -1,5 +1,5 @@
 -- `known_writing::output::print_lines` is safe and ends: the measure is how many bytes are left to print.
-use Rattle.std.proofs.Common.{◌-◌, ◌≤◌, length, rules}
+use Rattle.std.proofs.Common.{◌-◌, ◌≤◌, length}
 use Rattle.known_writing.proofs.output.print_lines.Given as goal
 
 abbrev pub invariant-loop-from : goal.invariant-loop-from

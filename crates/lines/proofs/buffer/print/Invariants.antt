@@ -1,7 +1,6 @@
 -- `lines::buffer::print` is safe and ends: the measure is how many bytes are left to print.
 use Prim.Native.Nat.{◌-◌}
 use lib.ListN.{length}
-use borrow.Author.Rules.{rules}
 use Rattle.lines.proofs.buffer.print.Given as goal
 
 abbrev pub invariant-loop-i : goal.invariant-loop-i

@@ -2,7 +2,6 @@
 use mathlib.Core.Path.{◌≡◌}
 use Prim.Native.Nat.{◌-◌, ◌≤◌}
 use lib.ListN as ListN
-use borrow.Author.Rules.{rules}
 use Rattle.lines.proofs.buffer.read.Given as goal
 
 abbrev pub invariant-loop-length : goal.invariant-loop-length

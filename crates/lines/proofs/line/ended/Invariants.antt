@@ -1,6 +1,5 @@
 -- `lines::line::ended` is safe and ends: the measure is what is left of the line before its last byte.
 use Prim.Native.Nat.{◌-◌}
-use borrow.Author.Rules.{rules}
 use Rattle.lines.proofs.line.ended.Given as goal
 
 abbrev pub invariant-loop-at : goal.invariant-loop-at

@@ -1,7 +1,6 @@
 -- `lines::line::past` is safe and ends: the measure is how many bytes are left to compare.
 use Prim.Native.Nat.{◌-◌}
 use lib.ListN.{length}
-use borrow.Author.Rules.{rules}
 use Rattle.lines.proofs.line.past.Given as goal
 
 abbrev pub invariant-loop-i : goal.invariant-loop-i

@@ -1,6 +1,5 @@
 -- `lines::line::read_decimal` is safe and ends: the measure is what is left of the line.
 use Prim.Native.Nat.{◌-◌}
-use borrow.Author.Rules.{rules}
 use Rattle.lines.proofs.line.read_decimal.Given as goal
 
 abbrev pub invariant-loop-at : goal.invariant-loop-at

@@ -1,5 +1,4 @@
 -- `lines::line::read_sixteen_digits` is safe and ends: the measure is how many digits are left.
-use borrow.Author.Rules.{rules}
 use Rattle.lines.proofs.line.read_sixteen_digits.Given as goal
 
 abbrev pub invariant-loop-left : goal.invariant-loop-left

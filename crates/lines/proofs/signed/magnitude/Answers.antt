@@ -1,7 +1,6 @@
 -- `lines::signed::magnitude` is safe. The complement of a negative exponent's bits is its magnitude less one, and an exponent that is
 -- not negative is its own magnitude: neither cast meets a negative number.
 use native.Mathlib.Omega.{arith}
-use borrow.Author.Rules.{rules}
 use Rattle.numbers.proofs.Laws.SignedWords.{negative, natural}
 use Rattle.lines.proofs.signed.magnitude.Goals as goal
 

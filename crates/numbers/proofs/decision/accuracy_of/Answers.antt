@@ -1,5 +1,4 @@
 -- `numbers::decision::accuracy_of` meets its contract: its two tests are those of `accuracy_by`.
-use borrow.Author.Tests.{not-true, not-false}
 use Rattle.numbers.specs.Magnitude.{accuracy_by}
 use Rattle.numbers.proofs.decision.accuracy_of.Goals as goal
 

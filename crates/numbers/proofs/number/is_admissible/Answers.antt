@@ -1,5 +1,4 @@
 -- `numbers::number::is_admissible` meets its contract: it is the fit test between the two ends.
-use borrow.Author.Rules.{rules}
 use Rattle.numbers.specs.Number.{is_admissible_exponent}
 use Rattle.numbers.proofs.number.is_admissible.Goals as goal
 

@@ -1,11 +1,9 @@
 -- `numbers::rounding::rounded` meets its contract: shifted to its top bit the magnitude is rounded or claimed there, and the laws of Top carry that to its value.
 use mathlib.Core.Path.{◌≡◌, sym, ap, ◌∙◌}
 use mathlib.Core.Bool.{Bool}
-use mathlib.Core.Logic.{⊎_elim}
 use Prim.Native.Nat.{ℕ, ◌+◌, ◌*◌, ◌^◌, ◌≤◌, ◌<◌}
 use native.Mathlib.Nat.{zero-mul}
 use native.Mathlib.Omega.{arith}
-use borrow.Author.Rules.{rules}
 use lib.Ieee.{minus}
 use Rattle.numbers.specs.Biased.{raise}
 use Rattle.numbers.specs.Rounding.{precision_of, round}
@@ -79,8 +77,8 @@ returns-then-magnitude-eq0-2 c = nothing _ _ _ _ _ c.if-magnitude-eq0.true c.if-
 pub leading_zeros-zeros-requires : goal.leading_zeros-zeros-requires
 leading_zeros-zeros-requires c =
     elim c.if-magnitude-eq0.branch [
-      then-magnitude-eq0+else-magnitude-eq0-2 w ↦ low_set _ _ w.if-magnitude-eq0-2.false
-    | else-magnitude-eq0 w ↦ high_set _ _ w.if-magnitude-eq0.false
+      | then-magnitude-eq0+else-magnitude-eq0-2 w ↦ low_set _ _ w.if-magnitude-eq0-2.false
+      | else-magnitude-eq0 w ↦ high_set _ _ w.if-magnitude-eq0.false
     ]
 
 pub round_top-requires : goal.round_top-requires

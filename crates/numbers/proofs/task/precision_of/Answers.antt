@@ -1,5 +1,4 @@
 -- `numbers::task::precision_of` meets its contract, by the two cases of a task.
-use borrow.Author.Rules.{rules}
 use Rattle.numbers.proofs.task.precision_of.Goals as goal
 
 pub returns-in-Round : goal.returns-in-Round

@@ -1,5 +1,4 @@
 -- `numbers::words::cut` meets its contract. The bits that a cut drops are those that the shift left by the rest of the word keeps.
-use borrow.Author.Rules.{rules}
 use mathlib.Core.Path.{refl}
 use native.Mathlib.Nat.{le_of_lt, lt_of_lt_of_le}
 use lib.Pow.{pow_mono}

@@ -1,5 +1,4 @@
 -- `numbers::words::shift_left` meets its contract. The bits that leave the low word are its high bits, and a bound on the result says that none leaves the high word.
-use borrow.Author.Rules.{rules}
 use mathlib.Core.Path.{sym}
 use native.Mathlib.Nat.{le_of_lt, mul-one}
 use mir.Facts.{Fits-of_lt}

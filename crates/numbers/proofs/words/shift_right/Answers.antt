@@ -1,5 +1,4 @@
 -- `numbers::words::shift_right` meets its contract. What is dropped is what the cut of one word drops, and the whole low word where the shift is by a word or more.
-use borrow.Author.Rules.{rules}
 use native.Mathlib.Nat.{le_of_lt}
 use mir.Facts.{Fits-of_lt}
 use Rattle.numbers.specs.Cell.{wide}

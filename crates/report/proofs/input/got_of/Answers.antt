@@ -1,7 +1,6 @@
 -- `report::input::got_of` meets its contract: the sign of the answer, and then whether any bytes came.
 use mathlib.Core.Bool.{Bool}
 use mathlib.Core.Path.{◌≡◌, ◌∙◌}
-use borrow.Author.Rules.{rules}
 use lib.IntN.{ℤ, pos}
 use lib.Signed.{lt_z}
 use mir.Facts.{to_z-of_z}

@@ -1,7 +1,5 @@
 -- `report::input::read` is safe, ends and counts bytes of the buffer: the measure is what is left of it.
-use mathlib.Core.Path.{◌≡◌, sym, ◌∙◌}
-use Prim.Native.Nat.{◌-◌, ◌≤◌}
-use lib.ListN.{length}
+use mathlib.Core.Path.{sym, ◌∙◌}
 use borrow.Author.Rules.{rules}
 use Rattle.report.specs.Program.{bytes_in}
 use Rattle.report.proofs.Laws.Got.{came, counts}

@@ -1,10 +1,7 @@
 -- `report::input::read` is safe, ends and counts bytes of the buffer: the measure is what is left of it.
-use mathlib.Core.Path.{◌≡◌, sym, ◌∙◌}
+use mathlib.Core.Path.{◌≡◌}
 use Prim.Native.Nat.{◌-◌, ◌≤◌}
 use lib.ListN.{length}
-use borrow.Author.Rules.{rules}
-use Rattle.report.specs.Program.{bytes_in}
-use Rattle.report.proofs.Laws.Got.{came, counts}
 use Rattle.report.proofs.input.read.Given as goal
 
 abbrev pub invariant-loop-from : goal.invariant-loop-from

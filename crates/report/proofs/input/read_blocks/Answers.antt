@@ -7,7 +7,7 @@ use borrow.Author.Rules.{rules}
 use Rattle.report.specs.Program.{bytes_read, LeadsTo, Decides}
 use Rattle.report.proofs.Laws.Got.{counts}
 use Rattle.report.proofs.Laws.Awaited.{awaits_due}
-use Rattle.report.proofs.Laws.Read.{AreRead, none_read, after_length, block_read, one_more, block_decides, full_decides, part_size, size_most}
+use Rattle.report.proofs.Laws.Read.{none_read, after_length, block_read, one_more, block_decides, full_decides, part_size, size_most}
 use Rattle.report.proofs.input.read_blocks.Goals as goal
 use Rattle.report.proofs.input.read_blocks.Goals.{After-after, Else-size-lt-BLOCK_BYTES, In-Read}
 
@@ -58,8 +58,7 @@ unfolding bytes_read Decides
 returns-in_default-after c =
     let read = (goal.at-returns-in_default-after c).Else-size-lt-BLOCK_BYTES in
     let size = lent (goal.at-returns-in_default-after c).In-Read in
-    let next : c.loop-buffer.count + c.in-Read.size ≡ c.loop-buffer.count + 512 = omega (arith, whole read) in
-    (
+    let next : c.loop-buffer.count + c.in-Read.size ≡ c.loop-buffer.count + 512 = omega (arith, whole read) in (
       counts _ _ (rw (after_length _ _ _ _ c.loop-buffer.invariant (room read) _ size) (omega (arith, next, room read))),
       block_decides _ _ _ _ c.loop-buffer.invariant (room read) _ size _ next (rw c.in_default-after.is at (leads (goal.at-returns-in_default-after c).After-after)),
     )

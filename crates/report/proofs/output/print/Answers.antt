@@ -4,7 +4,6 @@ use Prim.Native.Nat.{ℕ, ◌≤◌}
 use native.Mathlib.Omega.{arith}
 use lib.ListN.{length, length-take}
 use lib.Seq.{length-take-le}
-use borrow.Author.Rules.{rules}
 use Rattle.text.specs.Text.{text_of}
 use Rattle.text.specs.declared.text.Text.{Text}
 use Rattle.report.proofs.output.print.Goals as goal

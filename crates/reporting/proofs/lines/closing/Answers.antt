@@ -1,5 +1,4 @@
 -- `reporting::lines::closing` meets its contract: what asking for figures answers picks the text.
-use borrow.Author.Rules.{rules}
 use Rattle.depot.specs.Figures.{bracket_figures}
 use Rattle.reporting.specs.Report.{closing_by, closing_text}
 use Rattle.reporting.proofs.lines.closing.Goals as goal

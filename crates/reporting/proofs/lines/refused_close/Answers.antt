@@ -1,6 +1,5 @@
 -- `reporting::lines::refused_close` meets its contract: the text is that of the definition, and has room.
 use mathlib.Core.List.{append_assoc}
-use borrow.Author.Rules.{rules}
 use Rattle.text.specs.Text.{ascii}
 use Rattle.text.proofs.Laws.Cut.{uncut, cut_append}
 use Rattle.reporting.specs.Report.{line_of, refused_close_text}

@@ -1,6 +1,5 @@
 -- `reporting::lines::report` meets its contract: the five lines are those of the definition, and have room.
 use mathlib.Core.List.{append_assoc}
-use borrow.Author.Rules.{rules}
 use Rattle.text.specs.Text.{ascii}
 use Rattle.text.proofs.Laws.Cut.{uncut, cut_append}
 use Rattle.reporting.specs.Report.{report_text}

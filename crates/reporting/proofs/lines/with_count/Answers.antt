@@ -1,6 +1,5 @@
 -- `reporting::lines::with_count` meets its contract: a name, a count and a newline are a line.
 use mathlib.Core.List.{append_assoc}
-use borrow.Author.Rules.{rules}
 use Rattle.text.specs.Text.{ascii}
 use Rattle.text.proofs.Laws.Cut.{cut_append}
 use Rattle.reporting.specs.Report.{line_of}

@@ -1,15 +1,8 @@
 -- `reporting::report::report_of` meets its contract. The invariant: the state so far and the pieces that are left print what the input prints.
-use mathlib.Core.List.{List}
-use mathlib.Core.Path.{◌≡◌, ap, ◌∙◌}
-use Prim.Native.Nat.{ℕ, min, ◌+◌, ◌-◌, ◌≤◌, ◌<◌}
-use native.Mathlib.Omega.{arith}
-use lib.ListN.{length, drop, length-drop}
-use borrow.Author.Rules.{rules}
-use Rattle.depot.specs.Depot.{fresh}
-use Rattle.depot.specs.declared.state.Depot.{Depot}
-use Rattle.reporting.specs.Report.{closing_text, pieces_of, report_from, report_of}
-use Rattle.reporting.proofs.Laws.Pieces.{no_piece}
-use Rattle.reporting.proofs.Laws.Run.{after_taken, after_refused}
+use mathlib.Core.Path.{◌≡◌}
+use Prim.Native.Nat.{◌-◌, ◌≤◌}
+use lib.ListN.{length, drop}
+use Rattle.reporting.specs.Report.{pieces_of, report_from, report_of}
 use Rattle.reporting.proofs.report.report_of.Given as goal
 
 abbrev pub invariant-loop-from : goal.invariant-loop-from

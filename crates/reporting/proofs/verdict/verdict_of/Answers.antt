@@ -1,5 +1,4 @@
 -- `reporting::verdict::verdict_of` meets its contract: each answer has its own row.
-use borrow.Author.Rules.{rules}
 use Rattle.depot.specs.Depot.{loading_row}
 use Rattle.reporting.specs.Verdict.{verdict_row}
 use Rattle.reporting.proofs.verdict.verdict_of.Goals as goal

@@ -1,5 +1,4 @@
 -- `steps::digit::digit_of` meets its contract: the product of the remainder, trunc 32, and the reciprocal.
-use borrow.Author.Rules.{rules}
 use Rattle.steps.specs.Run.{digit_of}
 use Rattle.steps.proofs.digit.digit_of.Goals as goal
 

@@ -1,7 +1,6 @@
 -- `steps::digit::digit_step` meets its contract: each of the six from the remainder, the digit and the divisor.
 use mathlib.Core.Path.{◌≡◌}
 use native.Mathlib.Omega.{arith}
-use borrow.Author.Rules.{rules}
 use Rattle.steps.specs.Run.{steps_of, digit_step}
 use Rattle.steps.proofs.digit.digit_step.Goals as goal
 

@@ -1,5 +1,4 @@
 -- `steps::digit::less_product` meets its contract: the product and the difference, both exact in 64 bits.
-use borrow.Author.Rules.{rules}
 use Rattle.steps.specs.Run.{less_of}
 use Rattle.steps.proofs.digit.less_product.Goals as goal
 

@@ -1,5 +1,4 @@
 -- `steps::digit::remainder_after` meets its contract: the remainder less the two products.
-use borrow.Author.Rules.{rules}
 use Rattle.steps.proofs.digit.remainder_after.Goals as goal
 
 pub returns : goal.returns

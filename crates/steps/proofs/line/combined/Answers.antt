@@ -1,5 +1,4 @@
 -- `steps::line::combined` meets its contract: a refused operand is returned as it is, and two numbers are worked out by `operate`.
-use borrow.Author.Rules.{rules}
 use Rattle.steps.proofs.Laws.Combined.{first_refused, second_refused, both_given}
 use Rattle.steps.proofs.line.combined.Goals as goal
 

@@ -1,5 +1,4 @@
 -- `steps::line::rounded` meets its contract: a refused operand is returned as it is, and a number is rounded.
-use borrow.Author.Rules.{rules}
 use Rattle.numbers.specs.Fraction.{value}
 use Rattle.steps.proofs.Laws.Combined.{line_refused, line_given}
 use Rattle.steps.proofs.line.rounded.Goals as goal

@@ -3,7 +3,6 @@ use mathlib.Core.Path.{◌≡◌, sym, ap₂, ◌∙◌}
 use Prim.Native.Nat.{ℕ}
 use native.Mathlib.Omega.{arith}
 use lib.Dec.{lit≤}
-use borrow.Author.Rules.{rules}
 use Rattle.numbers.specs.Accuracy.{marked_answer, unmarked, outcome}
 use Rattle.numbers.specs.Answer.{Outcome}
 use Rattle.numbers.specs.Fraction.{Fraction, product}

@@ -1,5 +1,4 @@
 -- `steps::wanted::after_step` meets its contract: each step is the reciprocal's, a half of the divisor or one of the digits'.
-use borrow.Author.Rules.{rules}
 use Rattle.steps.proofs.wanted.after_step.Goals as goal
 
 pub returns-then-wanted-le6 : goal.returns-then-wanted-le6

@@ -1,5 +1,4 @@
 -- `steps::wanted::answered` meets its contract: each answer has the step's of the same number.
-use borrow.Author.Rules.{rules}
 use Rattle.numbers.specs.Accuracy.{marked_answer, unmarked}
 use Rattle.steps.specs.Wanted.{step_outcome}
 use Rattle.steps.proofs.wanted.answered.Goals as goal

@@ -1,7 +1,6 @@
 -- `steps::wanted::last_step` meets its contract: the fourth digit, or the sums up to the wanted one.
 use mathlib.Core.Path.{◌≡◌}
 use native.Mathlib.Omega.{arith}
-use borrow.Author.Rules.{rules}
 use Rattle.steps.specs.Run.{sum_steps, last_step}
 use Rattle.steps.proofs.wanted.last_step.Goals as goal
 

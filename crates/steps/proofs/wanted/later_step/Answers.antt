@@ -2,7 +2,6 @@
 use mathlib.Core.Path.{◌≡◌, refl}
 use Prim.Native.Nat.{ℕ, ◌-◌, ◌≤◌}
 use native.Mathlib.Omega.{arith}
-use borrow.Author.Rules.{rules}
 use Rattle.numbers.specs.Accuracy.{outcome}
 use Rattle.numbers.specs.Answer.{Outcome}
 use Rattle.numbers.specs.Rounding.{by_mode}

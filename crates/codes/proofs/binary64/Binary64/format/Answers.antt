@@ -1,5 +1,4 @@
 -- `codes::binary64::Binary64::format` meets its contract: the constants are those of the definition.
-use borrow.Author.Rules.{rules}
 use mathlib.Core.Path.{refl}
 use Rattle.codes.specs.Codes.{binary64}
 use Rattle.codes.proofs.binary64.Binary64.format.Goals as goal

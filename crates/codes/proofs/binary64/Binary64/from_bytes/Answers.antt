@@ -2,7 +2,6 @@
 use mathlib.Core.Path.{◌∙◌}
 use Prim.Native.Nat.{ℕ}
 use native.Mathlib.Nat.{le_of_eq}
-use borrow.Author.Rules.{rules}
 use Rattle.little_endian.specs.Bytes.{IsBytes}
 use Rattle.little_endian.proofs.Laws.Bytes.{read_whole}
 use Rattle.codes.proofs.binary64.Binary64.from_bytes.Goals as goal

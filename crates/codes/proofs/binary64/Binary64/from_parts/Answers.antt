@@ -1,5 +1,4 @@
 -- `codes::binary64::Binary64::from_parts` meets its contract. The sign is at most 1 and the field below 2^11, so no product or sum overflows.
-use borrow.Author.Rules.{rules}
 use Prim.Native.Nat.{◌+◌, ◌*◌, ◌<◌}
 use native.Mathlib.Omega.{arith}
 use Rattle.codes.specs.Codes.{binary64, exponent_bits, join}

@@ -1,5 +1,4 @@
 -- `codes::binary64::Binary64::number` meets its contract: the code is taken apart, and the number of its parts is answered.
-use borrow.Author.Rules.{rules}
 use Rattle.codes.specs.Codes.{binary64, number_of}
 use Rattle.codes.proofs.Laws.Parts.{binary64_format, split_code}
 use Rattle.codes.proofs.binary64.Binary64.number.Goals as goal

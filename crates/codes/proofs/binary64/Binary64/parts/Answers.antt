@@ -1,5 +1,4 @@
 -- `codes::binary64::Binary64::parts` meets its contract: quotients and remainders by powers of two take the bits apart.
-use borrow.Author.Rules.{rules}
 use Prim.Native.Nat.{◌/◌, ◌%◌, ◌^◌}
 use native.Mathlib.Nat.{mod-lt}
 use native.Mathlib.Omega.{arith}

@@ -1,6 +1,5 @@
 -- `codes::binary64::Binary64::read` meets its contract: the number of the code in the bytes is answered.
 use mathlib.Core.Path.{◌∙◌}
-use borrow.Author.Rules.{rules}
 use borrow.Author.Tests.{eq-eqb, ne_eqb}
 use Rattle.codes.specs.Codes.{binary64, reading, reading_of}
 use Rattle.codes.proofs.binary64.Binary64.read.Goals as goal

@@ -1,5 +1,4 @@
 -- `codes::binary64::Binary64::write` meets its contract: a refusal leaves the bytes alone, and a code is put into them.
-use borrow.Author.Rules.{rules}
 use Rattle.codes.specs.Codes.{binary64, packed, writing, refusal_of}
 use Rattle.codes.specs.Layout.{laid}
 use Rattle.codes.proofs.Laws.Entries.{packing_leaves}

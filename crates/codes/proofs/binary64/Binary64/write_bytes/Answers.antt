@@ -1,5 +1,4 @@
 -- `codes::binary64::Binary64::write_bytes` meets its contract: as many bytes are filled as there are.
-use borrow.Author.Rules.{rules}
 use Rattle.codes.proofs.binary64.Binary64.write_bytes.Goals as goal
 
 pub returns : goal.returns

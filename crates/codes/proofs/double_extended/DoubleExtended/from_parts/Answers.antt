@@ -1,5 +1,4 @@
 -- `codes::double_extended::DoubleExtended::from_parts` meets its contract. The sign is at most 1 and the field below 2^15, so no product or sum overflows.
-use borrow.Author.Rules.{rules}
 use Prim.Native.Nat.{◌+◌, ◌*◌, ◌<◌}
 use native.Mathlib.Nat.{mod-eq_of_lt}
 use native.Mathlib.Omega.{arith}

@@ -1,5 +1,4 @@
 -- `codes::double_extended::DoubleExtended::number` meets its contract: the code is taken apart, and the number of its parts is answered.
-use borrow.Author.Rules.{rules}
 use Rattle.codes.specs.Codes.{double_extended, number_of}
 use Rattle.codes.proofs.Laws.Parts.{double_extended_format, split_code}
 use Rattle.codes.proofs.double_extended.DoubleExtended.number.Goals as goal

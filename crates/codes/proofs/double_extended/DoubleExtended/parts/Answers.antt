@@ -1,5 +1,4 @@
 -- `codes::double_extended::DoubleExtended::parts` meets its contract: the significand is a word, and the field and the sign are the parts of `upper`.
-use borrow.Author.Rules.{rules}
 use mathlib.Core.Path.{◌≡◌, sym}
 use Prim.Native.Nat.{ℕ, ◌+◌, ◌*◌, ◌/◌, ◌%◌, ◌^◌, ◌<◌}
 use native.Mathlib.Nat.{add-zero}

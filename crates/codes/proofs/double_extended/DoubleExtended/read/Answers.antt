@@ -1,6 +1,5 @@
 -- `codes::double_extended::DoubleExtended::read` meets its contract: the number of the code in the bytes is answered.
 use mathlib.Core.Path.{◌∙◌}
-use borrow.Author.Rules.{rules}
 use borrow.Author.Tests.{eq-eqb, ne_eqb}
 use Rattle.codes.specs.Codes.{double_extended, reading, reading_of}
 use Rattle.codes.proofs.double_extended.DoubleExtended.read.Goals as goal

@@ -1,5 +1,4 @@
 -- `codes::double_extended::DoubleExtended::write` meets its contract: a refusal leaves the bytes alone, and a code is put into them.
-use borrow.Author.Rules.{rules}
 use Rattle.codes.specs.Codes.{double_extended, packed, writing, refusal_of}
 use Rattle.codes.specs.Layout.{laid}
 use Rattle.codes.proofs.Laws.Entries.{packing_leaves}

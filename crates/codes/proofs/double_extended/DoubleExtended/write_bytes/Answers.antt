@@ -1,5 +1,4 @@
 -- `codes::double_extended::DoubleExtended::write_bytes` meets its contract. The significand fills the first eight bytes, and `upper` the two that follow.
-use borrow.Author.Rules.{rules}
 use mathlib.Core.Path.{refl, sym}
 use lib.Dec.{lit≤}
 use Rattle.little_endian.proofs.Laws.Bytes.{first_length, write_parts}

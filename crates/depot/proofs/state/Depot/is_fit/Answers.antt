@@ -1,8 +1,7 @@
 -- `depot::state::Depot::is_fit` meets its contract: each way out has the tests of `is_fit_depot` behind it.
 use mathlib.Core.Path.{◌∙◌}
 use mathlib.Core.Bool.{and-false}
-use borrow.Author.Rules.{rules}
-use borrow.Author.Tests.{le-leb, lt-leb, not-true, not-false}
+use borrow.Author.Tests.{le-leb, lt-leb}
 use Rattle.depot.specs.Depot.{is_fit_depot}
 use Rattle.depot.proofs.state.Depot.is_fit.Goals as goal
 

@@ -1,14 +1,9 @@
 -- `text::text::Text::with_bytes` meets its contract. The loop's invariant: the text has the bytes passed more, those that have room.
-use mathlib.Core.List.{◌++◌, append_assoc, append-nil}
+use mathlib.Core.List.{◌++◌}
 use mathlib.Core.Path.{◌≡◌}
-use Prim.Native.Nat.{ℕ, ◌-◌, ◌≤◌, ◌<◌}
-use native.Mathlib.Numerals.{add-one}
-use native.Mathlib.Omega.{arith}
+use Prim.Native.Nat.{◌-◌, ◌≤◌}
 use lib.ListN.{length, take}
-use lib.Seq.{take_all, take-suc}
-use borrow.Author.Rules.{rules}
 use Rattle.text.specs.Text.{text_of, cut}
-use Rattle.text.proofs.Laws.Cut.{within, cut_append}
 use Rattle.text.proofs.text.Text.with_bytes.Given as goal
 
 abbrev pub invariant-loop-i : goal.invariant-loop-i

@@ -1,6 +1,5 @@
 -- `text::text::Text::with_decimal` meets its contract: the fewest digits are those of the definition.
 use native.Mathlib.Omega.{arith}
-use borrow.Author.Rules.{rules}
 use Rattle.text.proofs.Laws.Digits.{decimal}
 use Rattle.text.proofs.text.Text.with_decimal.Goals as goal
 

@@ -1,7 +1,6 @@
 -- `text::text::Text::with_integer` meets its contract: a minus and the complement with one more, or the magnitude.
 use mathlib.Core.List.{append_assoc}
 use native.Mathlib.Omega.{arith}
-use borrow.Author.Rules.{rules}
 use Rattle.numbers.proofs.Laws.SignedWords.{negative, natural}
 use Rattle.text.specs.Text.{ascii, integer_text}
 use Rattle.text.proofs.Laws.Cut.{cut_append}

@@ -1,6 +1,5 @@
 -- `text::text::Text::with_sixteen_digits` meets its contract: sixteen digits are asked for, and no more have room.
 use native.Mathlib.Omega.{arith}
-use borrow.Author.Rules.{rules}
 use Rattle.text.proofs.Laws.Digits.{sixteen}
 use Rattle.text.proofs.text.Text.with_sixteen_digits.Goals as goal
 

@@ -49,7 +49,7 @@ returns-then-field-all_ones c = rw (eq-eqb _ _ (c.if-field-all_ones.true ∙ sym
 pub returns-then-not-canonical : goal.returns-then-not-canonical
 unfolding decoding judged_code
 returns-then-not-canonical c =
-    rw (no_ones _ c.args.code c.requires.0 c.if-field-all_ones.false, sym c.is_canonical-canonical.ensures ∙ c.if-not-canonical.true)
+    rw (no_ones _ c.args.code c.requires.0 (assumption), sym c.is_canonical-canonical.ensures ∙ c.if-not-canonical.true)
 
 pub overflow_cast-result : goal.overflow_cast-result
 unfolding decoding judged_code

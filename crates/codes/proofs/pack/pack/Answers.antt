@@ -7,7 +7,7 @@ pub returns-then-not-fit : goal.returns-then-not-fit
 returns-then-not-fit c = pack_unfit _ _ _ (sym c.is_working-fit.ensures ∙ c.if-not-fit.true)
 
 pub returns-then-length-room : goal.returns-then-length-room
-returns-then-length-room c = pack_wrong_length _ _ _ (sym c.is_working-fit.ensures ∙ c.if-not-fit.false) c.if-length-room.true
+returns-then-length-room c = pack_wrong_length _ _ _ (sym c.is_working-fit.ensures ∙ (assumption)) c.if-length-room.true
 
 pub equal_code-requires : goal.equal_code-requires
 equal_code-requires c = (c.requires, sym c.is_working-fit.ensures ∙ c.if-not-fit.false)

@@ -1,10 +1,10 @@
 /* Writes the block of three vans in edition 1 to standard output, where the report reads it. From the
- * repository's root, with the report built (`rt check report`):
+ * repository's root, with the report built (`rt run` in crates/report):
  *
- *     rt staticlib export_blocks
+ *     (cd crates/export_blocks && rt lib)
  *     gcc -std=c99 -Wall -Wextra -Werror -o target/example_blocks c/example_blocks.c \
- *         target/staticlib/libexport_blocks.a
- *     target/example_blocks | target/bin/report
+ *         crates/export_blocks/out/libexport_blocks.a
+ *     target/example_blocks | crates/report/out/report
  */
 #include <inttypes.h>
 #include <stdio.h>

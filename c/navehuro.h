@@ -2,7 +2,7 @@
  * Sum, difference, product and quotient of numbers with 64-bit significands, each rounded once, and
  * where the result lies against the exact one.
  *
- * The functions stand in libexport.a, which `rt staticlib export` writes to target/staticlib; it is
+ * The functions stand in libexport.a, which `rt lib` in crates/export writes to out/ there; it is
  * for x86-64.
  *
  * A number is sixteen bytes, whole numbers in them lowest byte first:

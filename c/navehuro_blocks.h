@@ -1,8 +1,8 @@
 /*
  * The blocks of a depot's vans, written from a list of numbers.
  *
- * The function stands in libexport_blocks.a, which `rt staticlib export_blocks` writes to
- * target/staticlib; it is for x86-64, and needs `memset` of the C library.
+ * The function stands in libexport_blocks.a, which `rt lib` in crates/export_blocks writes to
+ * out/ there; it is for x86-64, and needs `memset` of the C library.
  *
  * The list has five numbers for each van, one van after the other:
  *

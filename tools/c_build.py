@@ -11,9 +11,9 @@ ROOT = Path(__file__).resolve().parent.parent
 SOURCES = ROOT / "c"
 COMPILER = "gcc"
 # Where rt writes what is measured and compared.
-ARCHIVE = "target/staticlib/libexport.a"
-WRITER_ARCHIVE = "target/staticlib/libexport_blocks.a"
-REPORT = "target/bin/report"
+ARCHIVE = "crates/export/out/libexport.a"
+WRITER_ARCHIVE = "crates/export_blocks/out/libexport_blocks.a"
+REPORT = "crates/report/out/report"
 # Exit status where something is missing, does not build or fails.
 FAILED = 2
 # A header, and the Debian package that has it.
@@ -50,18 +50,19 @@ def ran(words: list, good: tuple[int, ...] = (0,), **options) -> subprocess.Comp
     return run
 
 
-def rt(*words: str) -> None:
-    """Runs rt at the root of the repository; what it prints goes to standard error."""
+def rt(crate: str, word: str) -> None:
+    """Runs rt in the folder of a crate, with nothing to read; what it prints goes to standard error."""
     if not shutil.which("rt"):
         leave("rt is missing: install the Rattle toolchain, or name what it has built (--help)")
-    if subprocess.run(["rt", *words], cwd=ROOT, stdout=sys.stderr).returncode:
-        leave(f"rt {' '.join(words)} failed")
+    if subprocess.run(["rt", word], cwd=ROOT / "crates" / crate, stdin=subprocess.DEVNULL,
+                      stdout=sys.stderr).returncode:
+        leave(f"rt {word} failed in crates/{crate}")
 
 
-def built(path: str | None, place: str, *words: str) -> Path:
-    """The file at the path; if none is named, that which rt with these words writes to the place."""
+def built(path: str | None, place: str, crate: str = "", word: str = "") -> Path:
+    """The file at the path; if none is named, that which rt with this word makes of the crate."""
     if path is None:
-        rt(*words)
+        rt(crate, word)
     file = ROOT / place if path is None else Path(path).resolve()
     if not file.is_file():
         leave(f"{file} is missing")
@@ -70,12 +71,12 @@ def built(path: str | None, place: str, *words: str) -> Path:
 
 def archive(path: str | None) -> Path:
     """The archive at the path, or that of the repository, built now."""
-    return built(path, ARCHIVE, "staticlib", "export")
+    return built(path, ARCHIVE, "export", "lib")
 
 
 def writer_archive(path: str | None) -> Path:
     """The archive of the writer at the path, or that of the repository, built now."""
-    return built(path, WRITER_ARCHIVE, "staticlib", "export_blocks")
+    return built(path, WRITER_ARCHIVE, "export_blocks", "lib")
 
 
 def compiled(folder: str, sources: list[str], flags: list[str], libraries: list[str],

@@ -10,7 +10,7 @@ import rules
 from depot_calls import Calls, Offer, Rate
 from model import BLOCK_BYTES, FULL_COUNT, LAST_BLOCK, LAST_COUNT, Record, Refused
 from operands import LARGEST_WORD, MARKS
-from requests import ABOVE, BELOW, EDITIONS, MOST_SUM, State, edition_of, plain_sum
+from requests import ABOVE, BELOW, EDITIONS, State, edition_of
 
 # The rows of a load in their order, by which the first that applies is answered.
 LOADING_ROWS = (3, 9, 13, 14, 15, 21, 16)
@@ -145,20 +145,6 @@ def check_editions(offers: list[Offer]) -> None:
             for record in model.records_of(block)} == set(product(EDITIONS, (False, True)))
 
 
-def check_sums(offers: list[Offer]) -> None:
-    """The least and the largest sum of a block's words, and multiples of 2^32 with the sums before
-    them, under a right check and a wrong one; some of them taken; and each word alone."""
-    blocks = [offer for offer in offers if len(offer.block) == BLOCK_BYTES]
-    seen = {(plain_sum(offer.block), offer.row == 14) for offer in blocks}
-    ends = {0, MOST_SUM, *(k * 2**32 - less for k in (1, 2, 64, 126) for less in (0, 1))}
-    assert set(product(ends, (False, True))) <= seen
-    taken = {plain_sum(offer.block) % 2**32 for offer in blocks if offer.row is None}
-    assert {0, LARGEST_WORD} <= taken
-    places = {tuple(at for at, word in enumerate(model.words_of(offer.block)[:127]) if word)
-              for offer in blocks if offer.row == 15}
-    assert {(at,) for at in range(127)} <= places
-
-
 def check_states(states: list[State]) -> None:
     """Each clause of fitness at its last fit and its first unfit values, and broken alone."""
     broken = Counter(chain.from_iterable(alone(broken_clauses(state)) for state in states))
@@ -201,7 +187,6 @@ def summary(sequences: list[Calls]) -> str:
     check_records([record for offer in taken for record in model.records_of(offer.block)])
     check_last_block(offers)
     check_editions(offers)
-    check_sums(offers)
     check_states(states)
     rates = [rate for calls in sequences for rate in calls.rates]
     marks = check_rates(rates)

@@ -6,7 +6,7 @@ import requests
 from model import Figures, Lent, Refused
 from requests import State
 
-RULES = requests.rules_after(4)
+RULES = requests.rules_after(3)
 
 
 def is_fit(state: State) -> bool:

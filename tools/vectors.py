@@ -35,13 +35,12 @@ import mark_coverage
 import rate_cases
 import rounding_cases
 import state_cases
-import sum_cases
 import writing_cases
 import writing_coverage
 
 WIDTH = 80
 FAMILIES = (arithmetic_cases, rounding_cases, code_cases, division_cases)
-DEPOT_FAMILIES = (depot_cases, damage_cases, state_cases, rate_cases, edition_cases, sum_cases)
+DEPOT_FAMILIES = (depot_cases, damage_cases, state_cases, rate_cases, edition_cases)
 WRITING_FAMILIES = (writing_cases,)
 
 

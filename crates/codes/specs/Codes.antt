@@ -1,5 +1,5 @@
 -- Document 01, "Codes": the two formats, and what reading and writing a code answer. One definition of each serves both formats.
--- A format's constants are the struct `Format` of src/code.rt, and a code taken apart is the struct `Code`. `minus a b` (lib.Ieee) is a − b as a
+-- A format's constants are the struct `Format` of src/code.rt, and a code taken apart is the struct `Code`. `minus a b` (Float.Ieee of std) is a − b as a
 -- whole number.
 use Rattle.std.specs.Prelude.{Bool, false, not, ◌&&◌, cond, List, ℕ, ◌+◌, ◌-◌, ◌*◌, ◌/◌, ◌%◌, ◌^◌, leb, ltb, eqb, ℤ, pos, neg_ℤ, nat_abs, ◌+ℤ◌, ◌-ℤ◌, length}
 use Rattle.std.specs.Bool.{beq}

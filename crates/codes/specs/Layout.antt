@@ -38,7 +38,7 @@ pub record IsCode (f : Format) (c : Code) : Type 0 where
 unfoldable pub HasEqualCode : Format → Number → Type 0
 HasEqualCode f x = (bytes : List ℕ) × IsBytes bytes × (y : Number) × (reading_of f bytes ≡ given y) × Equal (value y) (value x)
 
--- m × 2^e with the sign s: the value of `fin s m e` in the toolchain's account of IEEE 754 (lib.Ieee)
+-- m × 2^e with the sign s: the value of `fin s m e` in the toolchain's account of IEEE 754 (Float.Ieee of std)
 unfoldable pub ieee_fraction : Bool → ℕ → ℤ → Fraction
 ieee_fraction s m e = record { numerator = signed s (m * up e); denominator = down e }
 

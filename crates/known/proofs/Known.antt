@@ -47,7 +47,7 @@ up = 4
 abbrev exact : ℕ
 exact = 6
 
--- S / 2^63 × 2^e, and a power of two; an exponent is written `minus i o` (lib.Ieee), which is i − o
+-- S / 2^63 × 2^e, and a power of two; an exponent is written `minus i o` (Float.Ieee of std), which is i − o
 abbrev finite : ℤ → ℕ → Number
 finite e S = Finite false e S
 

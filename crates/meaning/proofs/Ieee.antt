@@ -1,4 +1,4 @@
--- Near to 53 bits is the rounding of IEEE 754's binary64, as lib.Ieee has it, wherever near to 53 bits gives a normal number or zero.
+-- Near to 53 bits is the rounding of IEEE 754's binary64, as Float.Ieee of std has it, wherever near to 53 bits gives a normal number or zero.
 use mathlib.Core.Path.{◌≡◌, refl, sym, ap, ap₂, ◌∙◌}
 use mathlib.Core.Bool.{Bool, true, false, not, ◌&&◌, ◌||◌, cond}
 use mathlib.Core.Logic.{◌⊎◌, inl, inr}
@@ -108,7 +108,7 @@ trailing_enough (suc d) q q0 h = go (q % 2) refl (trailing_enough d (q / 2))
 odd_enough : (d : ℕ) (s : Bool) (q k l : ℕ) → 0 < q → q < 2 ^ d → odd (suc d) s q k l ≡ odd d s q k l
 odd_enough d s q k l q0 h = odd_some (suc d) s q k l q0 ∙ rw (trailing_enough d q q0 h) (sym (odd_some d s q k l q0))
 
--- ---- a number as a value of lib.Ieee
+-- ---- a number as a value of Float.Ieee of std
 
 -- with the exponent i − o it is ± S × 2^i / 2^(o + 63)
 float_minus : (s : Bool) (i o S : ℕ) → float_of (Finite s (minus i o) S) ≡ odd 64 s S i (o + 63)
@@ -205,7 +205,7 @@ coarser s a b P b0 h e = le_antisymm most least
             let l : suc (whole_of Near s a b) ≤ P = lt_of_not-le n in
             absurd (omega (arith, mul-le-mul_right b l, whole_near a b b0 s, whole_near (2 * a) b b0 s, ap (λ (m : ℕ). m * b) e))
 
--- the rounding of lib.Ieee is q × 2^k units, from its unit 2^k on
+-- the rounding of Float.Ieee of std is q × 2^k units, from its unit 2^k on
 at_unit : (s : Bool) (a b k q : ℕ) → size (a * 2 ^ low binary64 / b) - 53 ≡ k → closest (a * 2 ^ low binary64) (b * 2 ^ k) ≡ q
     → q * 2 ^ k < 2 ^ (low binary64 + suc (emax binary64)) → ieee.round binary64 s a b ≡ odd 54 s q k 1074
 at_unit s a b k q e f l =
@@ -253,7 +253,7 @@ module _ (s : Bool) (a b : ℕ) (a0 : 0 < a) (b0 : 0 < b) (fit : is_normal_or_ze
   abbrev z : ℕ
   z = size (a * 2 ^ low binary64 / b)
 
-  -- with 53 bits or more lib.Ieee counts in units of the last place too
+  -- with 53 bits or more Float.Ieee of std counts in units of the last place too
   above_least : 53 ≤ z → Same
   unfolding rounded_at scaled_numerator scaled_denominator
   above_least h =

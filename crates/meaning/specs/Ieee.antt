@@ -1,4 +1,4 @@
--- Numbers as values of lib.Ieee, the toolchain's account of IEEE 754. A law says that near to 53 bits is its rounding to binary64 (proofs/Ieee).
+-- Numbers as values of Float.Ieee of std, the toolchain's account of IEEE 754. A law says that near to 53 bits is its rounding to binary64 (proofs/Ieee).
 use Rattle.std.specs.Prelude.{Bool, false, ℕ, ◌+◌, Float, pos, negsuc, neg_ℤ}
 use Rattle.std.specs.Float.{fin}
 use Rattle.std.specs.Float.Ieee.{odd}
@@ -6,7 +6,7 @@ use Rattle.numbers.specs.Number.{is_between, is_fit}
 use Rattle.numbers.specs.declared.number.Number.{Number}
 use Rattle.numbers.specs.declared.number.Number.TheVariants.{Zero, Finite}
 
--- the number ± S × 2^(e − 63) as lib.Ieee writes it, with an odd whole number: `odd d s S k l` is ± S × 2^k / 2^l for an S of at most d bits. Zero is +0.
+-- the number ± S × 2^(e − 63) as Float.Ieee of std writes it, with an odd whole number: `odd d s S k l` is ± S × 2^k / 2^l for an S of at most d bits. Zero is +0.
 unfoldable pub float_of : Number → Float
 float_of Zero = fin false 0 (pos 0)
 float_of (Finite negative (pos e) S) = odd 64 negative S e 63

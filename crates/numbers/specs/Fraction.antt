@@ -44,7 +44,7 @@ unfoldable pub is_negative : ℤ → Bool
 is_negative (pos a) = false
 is_negative (negsuc a) = true
 
--- "The value is sign × S × 2^(e − 63)." Zero is 0 / 1. 2^e is up e / down e (lib.Ieee): of the two, one is a power of 2 and the other is 1.
+-- "The value is sign × S × 2^(e − 63)." Zero is 0 / 1. 2^e is up e / down e (Float.Ieee of std): of the two, one is a power of 2 and the other is 1.
 unfoldable pub value : Number → Fraction
 value Zero = record { numerator = pos 0; denominator = 1 }
 value (Finite negative e S) = record { numerator = signed negative (S * up e); denominator = 2 ^ 63 * down e }

@@ -1,4 +1,4 @@
--- Document 01, "Rounding to n bits, n from 1 to 64". In the formulas 2^e is the fraction up e / down e of lib.Ieee; these are not the modes Up and Down.
+-- Document 01, "Rounding to n bits, n from 1 to 64". In the formulas 2^e is the fraction up e / down e of Float.Ieee of std; these are not the modes Up and Down.
 use Rattle.std.specs.Prelude.{Bool, false, not, ◌&&◌, ◌||◌, cond, ℕ, ◌+◌, ◌-◌, ◌*◌, ◌/◌, ◌%◌, ◌^◌, leb, ltb, eqb, ℤ, nat_abs}
 use Rattle.std.specs.Float.Ieee.{size, up, down, minus}
 use Rattle.std.proofs.Math.IntN.{suc_ℤ, pred_ℤ}

@@ -1,4 +1,4 @@
--- The binary64 code of document 01 is that of IEEE 754, as the toolchain has it (lib.Ieee): each word has the same sign and value in both, the words
+-- The binary64 code of document 01 is that of IEEE 754, as the toolchain has it (Float.Ieee of std): each word has the same sign and value in both, the words
 -- that are no number are the infinities and the nan, and what is read of a word is its value, at each word but these and negative zero.
 use mathlib.Core.Path.{◌≡◌, refl, sym, ap, ap₂, ◌∙◌}
 use mathlib.Core.Bool.{Bool, true, false, not, ◌&&◌, cond, false≢true}

@@ -13,7 +13,7 @@ ternary_of accuracy.Below = neg_ℤ (pos 1)
 ternary_of accuracy.Exact = pos 0
 ternary_of accuracy.Above = pos 1
 
--- what a call leaves: its answer, and at its exit the bytes of `result` and the mark in `accuracy`
+-- what a call leaves: its answer, and at its exit the bytes of `res` and the mark in `accuracy`
 pub record Call : Type 0 where
   pub answer : ℕ
   pub bytes : List ℕ
@@ -39,7 +39,7 @@ operated operation none y old was = call 64 old was
 unfoldable pub is_sixteen : ℕ → Bool
 is_sixteen n = eqb n 16
 
--- What a call leaves, of the bytes of its operands, the old bytes of `result` and the old mark: 9 where one of the three has not sixteen bytes.
+-- What a call leaves, of the bytes of its operands, the old bytes of `res` and the old mark: 9 where one of the three has not sixteen bytes.
 unfoldable pub call_of : (Number → Number → Marked) → List ℕ → List ℕ → List ℕ → ℤ → Call
 call_of operation a b old was =
     cond (is_sixteen (length a) && (is_sixteen (length b) && is_sixteen (length old)))

@@ -1,5 +1,5 @@
 // What every call does around its operation: the operands are read from their bytes, and the outcome is
-// left in `result`, in `accuracy` and in the answer.
+// left in `res`, in `accuracy` and in the answer.
 ghost use Rattle.std.specs.Prelude.{◌≡◌, length};
 ghost use Rattle.numbers.specs.Accuracy.{marked_answer};
 ghost use Rattle.division.specs.Quotient.{marked_quotient};

@@ -20,7 +20,7 @@ use Rattle.numbers.specs.Rounding.{scaled_numerator, scaled_denominator, round, 
 use Rattle.numbers.specs.declared.task.Mode.{Mode}
 use Rattle.numbers.specs.declared.task.Mode.TheVariants.{Trunc}
 use Rattle.numbers.proofs.Laws.Pairs.{equal_back, equal_through}
-use Rattle.numbers.proofs.Laws.Bits.{bits_of}
+use Rattle.numbers.proofs.Laws.Bits.{bits_of_is}
 use Rattle.numbers.proofs.Laws.Bounds.{kept}
 use Rattle.numbers.proofs.Laws.Fits.{scaled_low, scaled_high}
 use Rattle.numbers.proofs.Laws.Misses.{whole_miss}
@@ -214,7 +214,7 @@ module _ (n : ℕ) (x : Fraction) (x0 : IsFraction x) (n0 : 1 ≤ n) (n1 : n ≤
           let none : numerator_at n x ≡ 0 = omega (arith, ap (λ (z : ℕ). z * unit_denominator n x) e) in
           eq-eqb (numerator_at n x % denominator_at x) 0 (ap (λ (z : ℕ). z % denominator_at x) none ∙ zero-mod (denominator_at x))
       go (suc a) e =
-          bits_of n (size x) x.denominator h.whole h.i h.o n0 (omega arith) x0 h.short (scaled_size h.amount ∙ omega arith)
+          bits_of_is n (size x) x.denominator h.whole h.i h.o n0 (omega arith) x0 h.short (scaled_size h.amount ∙ omega arith)
 
   -- It passes exactly for the numbers of n bits.
   pub bits_mean : HasBits n x ↔ (has_at_most_bits n (size x) x.denominator ≡ true)

@@ -36,9 +36,9 @@ rounded (Round rounding) x = checked (round rounding.mode rounding.precision x)
 rounded (Exact claim) x = claimed claim.precision x
 
 -- "The lowest number that applies is returned, and none where no row applies."
--- Row 1, for codes up to `lastCode`: "mode code above 6; for divide and steps above 5"
+-- Row 1, for codes up to `last_code`: "mode code above 6; for divide and steps above 5"
 unfoldable pub unless_unknown : ℕ → ℕ → Outcome → Outcome
-unless_unknown lastCode code answer = cond (ltb lastCode code) (refused 1) answer
+unless_unknown last_code code answer = cond (ltb last_code code) (refused 1) answer
 
 -- Rows 2 and 3, for an operand that is judged by `fit`: "precision not 1 to 64", "only or first operand unfit"
 unfoldable pub unless_unfit : (Number → Bool) → Number → ℕ → Outcome → Outcome

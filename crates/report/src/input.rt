@@ -1,11 +1,11 @@
 // Reads standard input.
-ghost use Rattle.std.specs.Prelude.{◌≡◌, ◌≤◌, length};
+ghost use Rattle.std.specs.Prelude.{◌≡◌, ◌^◌, ◌<◌, ◌≤◌, pos, negsuc, length, IfOk, IfErr};
 ghost use Rattle.io.specs.Counts.{IsPrefixLen};
 ghost use Rattle.report.specs.Program.{got_of, bytes_in, bytes_read, Decides};
 
 use super::awaited::{Awaited, Following};
 use blocks::judgement::BLOCK_BYTES;
-use std::io::{Read, Stdin};
+use std::io::{Read, Result, Stdin};
 
 // How many bytes were read: all of the input, or as many as decide what is printed; or that a read failed.
 #[derive(Clone, Copy)]
@@ -63,7 +63,7 @@ fn read(stdin: &mut Stdin, buffer: &mut [u8]) -> Piece
 {
     let mut from = 0;
     while from < buffer.len() {
-        let answer = read_once(stdin, &mut buffer[from..]);
+        let answer = answer_of(stdin.read(&mut buffer[from..]));
         match got_of(answer, &buffer[from..]) {
             Got::Bytes(count) => from += count,
             Got::End => return Piece::Read(from),
@@ -73,9 +73,13 @@ fn read(stdin: &mut Stdin, buffer: &mut [u8]) -> Piece
     Piece::Read(from)
 }
 
-// One read of standard input: how many bytes it brought, or −1 where it failed.
-fn read_once(stdin: &mut Stdin, room: &mut [u8]) -> isize {
-    match stdin.read(room) {
+// What a read brought, as C's `read` answers it: the number of bytes, or −1 where it failed.
+fn answer_of(brought: Result<usize>) -> isize
+    requires { IfOk brought (λ count. count < 2 ^ 63) }
+    ensures came { IfOk brought (λ count. result ≡ pos count) }
+    ensures failed { IfErr brought (λ _. result ≡ negsuc 0) }
+{
+    match brought {
         Ok(count) => count as isize,
         Err(_) => -1,
     }

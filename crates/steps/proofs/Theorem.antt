@@ -17,7 +17,7 @@ use Rattle.numbers.specs.declared.number.Number.{Number}
 use Rattle.numbers.specs.declared.number.Number.TheVariants.{Zero, Finite}
 use Rattle.numbers.specs.declared.task.Mode.{Mode}
 use Rattle.numbers.proofs.Laws.Fits.{given_round, working_checked}
-use Rattle.numbers.proofs.Laws.Refusals.{precision_range, mode_of}
+use Rattle.numbers.proofs.Laws.Refusals.{precision_range, mode_of_is}
 use Rattle.numbers.proofs.Laws.Scaled.{equal_scaled}
 use Rattle.numbers.proofs.Laws.Tests.{never}
 use Rattle.division.specs.Quotient.{is_zero, marked_quotient, unless_indivisible, quotient_of}
@@ -86,7 +86,7 @@ unless_related R p d code n a b refusals answers = go (ltb 5 code) (is_precision
 module _ (p d : Number) (code n : ℕ) where
   coded : IsTaken p d code n → (mode : Mode) × (task_of code n ≡ by_mode mode n) × IsDivided p d mode n
   coded is =
-      let m = mode_of code n is.mode in
+      let m = mode_of_is code n is.mode in
       (m.0, m.1, joined p d m.0 n is.dividend is.divisor is.nonzero is.precise.0 is.precise.1)
 
   -- what a task gives of the quotient is what step 32 gives: the number is working, so no row refuses it

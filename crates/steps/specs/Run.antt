@@ -67,13 +67,13 @@ last_step task first second third fourth k = get_or (fourth ∷ sum_steps task f
 unfoldable pub later_steps : Task → Outcome → Outcome → Outcome → Outcome → Outcome → List Outcome
 later_steps task first remainder reciprocal high low =
     let second = digit_of (by_mode Away 24) remainder reciprocal in
-    let after-second = remainder_after remainder second high low in
-    let third = digit_of (by_mode Away 24) after-second reciprocal in
-    let after-third = remainder_after after-second third high low in
-    let fourth = digit_of (by_mode Trunc 24) after-third reciprocal in
+    let after_second = remainder_after remainder second high low in
+    let third = digit_of (by_mode Away 24) after_second reciprocal in
+    let after_third = remainder_after after_second third high low in
+    let fourth = digit_of (by_mode Trunc 24) after_third reciprocal in
     digit_steps remainder reciprocal high low
-    ++ digit_steps after-second reciprocal high low
-    ++ line_of (by_mode Trunc 32) value after-third
+    ++ digit_steps after_second reciprocal high low
+    ++ line_of (by_mode Trunc 32) value after_third
     ∷ fourth
     ∷ sum_steps task first second third fourth
 

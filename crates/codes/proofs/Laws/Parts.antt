@@ -42,10 +42,10 @@ sign_back : (s : Bool) → ltb 0 (cond s 1 0) ≡ s
 sign_back true = refl
 sign_back false = refl
 
-sign_bit : (n : ℕ) → n < 2 → cond (ltb 0 n) 1 0 ≡ n
-sign_bit zero h = refl
-sign_bit (suc zero) h = refl
-sign_bit (suc (suc n)) h = absurd (omega arith)
+sign_bit_is : (n : ℕ) → n < 2 → cond (ltb 0 n) 1 0 ≡ n
+sign_bit_is zero h = refl
+sign_bit_is (suc zero) h = refl
+sign_bit_is (suc (suc n)) h = absurd (omega arith)
 
 -- the parts of a word have room in the format, and parts that have room are put together to a word
 pub split_code : (f : Format) (w : ℕ) → IsFormat f → IsCode f (split f w)
@@ -70,7 +70,7 @@ join_split f w formed h =
     let upper : w / S < 2 * E = (div-lt_iff_lt-mul (pow_pos f.stored)).1 (rw (all_bits f formed) at h) in
     rw (
       (leading_room f formed (w / S % E) (w % S) (mod-lt w (pow_pos f.stored))).1,
-      sign_bit (w / S / E) ((div-lt_iff_lt-mul (pow_pos (exponent_bits f))).1 upper),
+      sign_bit_is (w / S / E) ((div-lt_iff_lt-mul (pow_pos (exponent_bits f))).1 upper),
       div-add-mod' (w / S) E,
     ) (div-add-mod' w S)
 

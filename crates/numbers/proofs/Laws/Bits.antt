@@ -17,9 +17,9 @@ use Rattle.numbers.proofs.Laws.Cell.{bits_at}
 use Rattle.numbers.proofs.Laws.Powers.{top_bit, below_top, pow_below, power_sum}
 
 -- a / b is q × 2^i / 2^o
-pub bits_of : (n a b q i o : ℕ) → 1 ≤ n → 0 < a → 0 < b → q < 2 ^ n → a * 2 ^ o ≡ q * (b * 2 ^ i) → has_at_most_bits n a b ≡ true
-bits_of n a b zero i o n0 a0 b0 q1 e = absurd (omega (arith, mul-le-mul a0 (pow_pos o)))
-bits_of n a b (suc p) i o n0 a0 b0 q1 e =
+pub bits_of_is : (n a b q i o : ℕ) → 1 ≤ n → 0 < a → 0 < b → q < 2 ^ n → a * 2 ^ o ≡ q * (b * 2 ^ i) → has_at_most_bits n a b ≡ true
+bits_of_is n a b zero i o n0 a0 b0 q1 e = absurd (omega (arith, mul-le-mul a0 (pow_pos o)))
+bits_of_is n a b (suc p) i o n0 a0 b0 q1 e =
     let q = suc p in
     let F = q * 2 ^ n in
     let big : 2 ^ n ≤ F = omega arith in

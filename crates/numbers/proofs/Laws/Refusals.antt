@@ -24,15 +24,15 @@ task_precision code n =
     either false x y p q = q
 
 -- the mode of a code from 0 to 5
-pub mode_of : (code n : ℕ) → code ≤ 5 → (mode : Mode) × (task_of code n ≡ by_mode mode n)
+pub mode_of_is : (code n : ℕ) → code ≤ 5 → (mode : Mode) × (task_of code n ≡ by_mode mode n)
 unfolding task_of
-mode_of zero n h = (Trunc, refl)
-mode_of (suc zero) n h = (Away, refl)
-mode_of (suc (suc zero)) n h = (Near, refl)
-mode_of (suc (suc (suc zero))) n h = (Sticky, refl)
-mode_of (suc (suc (suc (suc zero)))) n h = (Up, refl)
-mode_of (suc (suc (suc (suc (suc zero))))) n h = (Down, refl)
-mode_of (suc (suc (suc (suc (suc (suc k)))))) n h = absurd (omega arith)
+mode_of_is zero n h = (Trunc, refl)
+mode_of_is (suc zero) n h = (Away, refl)
+mode_of_is (suc (suc zero)) n h = (Near, refl)
+mode_of_is (suc (suc (suc zero))) n h = (Sticky, refl)
+mode_of_is (suc (suc (suc (suc zero)))) n h = (Up, refl)
+mode_of_is (suc (suc (suc (suc (suc zero))))) n h = (Down, refl)
+mode_of_is (suc (suc (suc (suc (suc (suc k)))))) n h = absurd (omega arith)
 
 pub precision_range : (n : ℕ) → is_precision n ≡ true → (1 ≤ n) × (n ≤ 64)
 unfolding is_precision

@@ -22,7 +22,7 @@ use Rattle.numbers.specs.declared.task.Mode.TheVariants.{Trunc}
 use Rattle.numbers.proofs.Laws.Pairs.{equal_through}
 use Rattle.numbers.proofs.Laws.Minus.{suc_minus}
 use Rattle.numbers.proofs.Laws.Bias.{working}
-use Rattle.numbers.proofs.Laws.Bits.{bits_of, claim_holds}
+use Rattle.numbers.proofs.Laws.Bits.{bits_of_is, claim_holds}
 use Rattle.numbers.proofs.Laws.Bounds.{kept}
 use Rattle.numbers.proofs.Laws.Exponent.{scaled_positive, exponent_unique}
 use Rattle.numbers.proofs.Laws.Fits.{round_placed, given_working, zero_working}
@@ -89,7 +89,7 @@ claimed_scaled n {x} {s} {N = suc m} {i} {o} h n0 n1 small low high = record {
     bit = top_bit (suc m) (omega arith)
 
     bits : has_at_most_bits n (nat_abs x.numerator) x.denominator ≡ true
-    bits = bits_of n (nat_abs x.numerator) x.denominator (suc m) i o n0 (scaled_some h (omega arith)) h.positive small (omega (arith, scaled_size h))
+    bits = bits_of_is n (nat_abs x.numerator) x.denominator (suc m) i o n0 (scaled_some h (omega arith)) h.positive small (omega (arith, scaled_size h))
 
     holds : rounded (claim n) x ≡ given y
     holds = claim_holds n x (scaled_some h (omega arith)) (scaled_working h bit.0 bit.1 bit.2 n small low high).0 bits

@@ -7,7 +7,7 @@ use Rattle.numbers.specs.Rounding.{task_of}
 use Rattle.numbers.specs.declared.number.Number.{Number}
 use Rattle.numbers.specs.declared.task.Task.{Task}
 use Rattle.numbers.proofs.Laws.Marked.{unmark}
-use Rattle.numbers.proofs.Laws.Refusals.{range_precision, mode_of}
+use Rattle.numbers.proofs.Laws.Refusals.{range_precision, mode_of_is}
 use Rattle.division.specs.Quotient.{marked_quotient, quotient_of}
 use Rattle.division.specs.Judgement.{IsTaken, answered_by, IsTask}
 use Rattle.division.specs.Words.{IsGiven}
@@ -32,7 +32,7 @@ module _ {p d : Number} {code n : ℕ} (is : IsTaken p d code n) {task : Task} (
 
     is_given : IsGiven (unmarked x)
     is_given =
-        let m = mode_of code n is.mode in
+        let m = mode_of_is code n is.mode in
         rw (ap unmarked e ∙ unmark v (rounded task v) ∙ ap (λ (t : Task). rounded t v) (named ∙ m.1)) (quotient_given p d is.dividend is.divisor is.nonzero m.0 n is.precise.0 is.precise.1)
 
 divisible : (c : In-Divisible) → IsTaken c.args.p c.args.d c.args.code c.args.precision

@@ -1,6 +1,6 @@
 /* Divides 1 by 4, by 3 downward and upward, and by zero, which is refused. From the repository's root:
  *
- *     (cd crates/export && rt lib)
+ *     mkdir -p target && (cd crates/export && rt lib)
  *     gcc -std=c99 -Wall -Wextra -Werror -o target/example c/example.c crates/export/out/libexport.a
  */
 #include <inttypes.h>

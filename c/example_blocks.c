@@ -1,7 +1,7 @@
 /* Writes the block of three vans in edition 1 to standard output, where the report reads it. From the
- * repository's root, with the report built (`rt run` in crates/report):
+ * repository's root, with the report built (`rt run < stdin` in crates/report):
  *
- *     (cd crates/export_blocks && rt lib)
+ *     mkdir -p target && (cd crates/export_blocks && rt lib)
  *     gcc -std=c99 -Wall -Wextra -Werror -o target/example_blocks c/example_blocks.c \
  *         crates/export_blocks/out/libexport_blocks.a
  *     target/example_blocks | crates/report/out/report

@@ -3,7 +3,7 @@
     python3 tools/compare_report.py FOLDER PROGRAM
 
 FOLDER holds the reference model and its maker of blocks, model.py, requests.py and make_blocks.py;
-PROGRAM is the built program, crates/report/out/report after `rt run` in crates/report.  Sound and damaged inputs
+PROGRAM is the built program, crates/report/out/report after `rt run < stdin` in crates/report.  Sound and damaged inputs
 in either edition, and with a change of edition, are given whole and, some of them, in pieces that end
 anywhere; then come reads that fail, inputs that do not end, and writes that fail.  Prints each
 difference, and how many inputs and how many differences there were.  The same inputs come out of every

@@ -1,6 +1,6 @@
 #!/usr/bin/env python3
-"""Brings the repository's own definitions, fields and lemmas to snake case, in its Rattle and antt files, its
-edits and its pages: python3 tools/snake_case_names.py, at the top of the repository. It was run once, by the
+"""Brings the repository's own definitions, fields and lemmas to snake case, in its Rattle and antt files and its
+edits: python3 tools/snake_case_names.py, at the top of the repository. It was run once, by the
 port that docs/PORT.md tells of.
 
 A name is turned where an antt file of the repository declares it. Names that a proof shares with what the

@@ -1,12 +1,14 @@
 -- Request E1, "Mark the exact rates": "Rounding now also says whether its result lies below the true value, equals it or lies above." What an answer
 -- says: a number with its accuracy, measured against the exact value, or a refusal.
-use Rattle.std.specs.Prelude.{cond, ℕ}
+use Rattle.std.specs.Prelude.{cond, ℕ, Ok, Err}
+use Rattle.std.specs.declared.result.Result.{Result}
+use Rattle.refusals.specs.Row.{row_number}
+use Rattle.refusals.specs.declared.Refusal.{Refusal}
 use Rattle.numbers.specs.Fraction.{Fraction, is_equal, is_at_most, value}
 use Rattle.numbers.specs.Answer.{Outcome, given, refused, rounded}
 use Rattle.numbers.specs.declared.answer.Accuracy.{Accuracy}
 use Rattle.numbers.specs.declared.answer.Accuracy.TheVariants as accuracy
-use Rattle.numbers.specs.declared.answer.Answer.{Answer}
-use Rattle.numbers.specs.declared.answer.Answer.TheVariants.{Given, UnknownMode, BadPrecision, FirstUnfit, SecondUnfit, ExponentOutside, TooManyBits}
+use Rattle.numbers.specs.declared.answer.Rounded.{Rounded}
 use Rattle.numbers.specs.declared.number.Number.{Number}
 use Rattle.numbers.specs.declared.task.Task.{Task}
 
@@ -29,19 +31,14 @@ abbrev pub marked_by : Task → Fraction → Marked
 marked_by task x = marked x (rounded task x)
 
 -- "Where an answer is an enum, a definition gives this paper's number and values for each case of the enum"
-unfoldable pub marked_answer : Answer → Marked
-marked_answer (Given x mark) = marked_as x mark
-marked_answer UnknownMode = refused_by 1
-marked_answer BadPrecision = refused_by 2
-marked_answer FirstUnfit = refused_by 3
-marked_answer SecondUnfit = refused_by 4
-marked_answer ExponentOutside = refused_by 7
-marked_answer TooManyBits = refused_by 8
+unfoldable pub marked_answer : Result Rounded Refusal → Marked
+marked_answer (Ok r) = marked_as r.number r.accuracy
+marked_answer (Err refusal) = refused_by (row_number refusal)
 
 -- the number or the refusal alone, of what is marked and of an answer
 unfoldable pub unmarked : Marked → Outcome
 unmarked (marked_as y mark) = given y
 unmarked (refused_by k) = refused k
 
-abbrev pub outcome : Answer → Outcome
+abbrev pub outcome : Result Rounded Refusal → Outcome
 outcome r = unmarked (marked_answer r)

@@ -1,5 +1,8 @@
 -- Document 01, "What callers get": a number or a refusal, what a task gives of an exact value, and the refusals 1 to 4.
-use Rattle.std.specs.Prelude.{Bool, not, cond, ℕ, ltb, eqb, nat_abs}
+use Rattle.std.specs.Prelude.{Bool, not, cond, ℕ, ltb, eqb, nat_abs, Ok, Err}
+use Rattle.std.specs.declared.result.Result.{Result}
+use Rattle.refusals.specs.Row.{row_number}
+use Rattle.refusals.specs.declared.Refusal.{Refusal}
 use Rattle.numbers.specs.Number.{is_working_exponent}
 use Rattle.numbers.specs.Fraction.{Fraction}
 use Rattle.numbers.specs.Rounding.{exponent_of, round, has_at_most_bits, is_precision}
@@ -47,3 +50,13 @@ unless_unfit fit a n answer = cond (not (is_precision n)) (refused 2) (cond (not
 -- Rows 2 to 4, for two operands: row 4 is "second operand unfit"
 abbrev pub unless_either_unfit : (Number → Bool) → Number → Number → ℕ → Outcome → Outcome
 unless_either_unfit fit a b n answer = unless_unfit fit a n (cond (not (fit b)) (refused 4) answer)
+
+-- "Where an answer is an enum, a definition gives this paper's number and values for each case of the enum": a number, or the row of the refusal
+unfoldable pub answer_outcome : Result Number Refusal → Outcome
+answer_outcome (Ok x) = given x
+answer_outcome (Err refusal) = refused (row_number refusal)
+
+-- what a judgement makes of the answer x: the row that refuses, or x itself
+unfoldable pub unless_refused : {T : Type 0} → Result T Refusal → Outcome → Outcome
+unless_refused (Ok judged) x = x
+unless_refused (Err refusal) x = refused (row_number refusal)

@@ -1,4 +1,4 @@
-// What an operation answers.
+// What an operation gives: a number, and where it lies.
 use super::number::Number;
 
 // Where a result lies, seen from the true value: below it, at it or above it. Signs count, so −1/4 lies
@@ -10,14 +10,9 @@ pub enum Accuracy {
     Above,
 }
 
-// The number with its accuracy, or the row of document 01's table that refused: the number in each comment.
+// A rounded number with its accuracy.
 #[derive(Clone, Copy)]
-pub enum Answer {
-    Given(Number, Accuracy),
-    UnknownMode, // 1
-    BadPrecision, // 2
-    FirstUnfit, // 3
-    SecondUnfit, // 4
-    ExponentOutside, // 7
-    TooManyBits, // 8
+pub struct Rounded {
+    pub number: Number,
+    pub accuracy: Accuracy,
 }

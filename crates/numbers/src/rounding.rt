@@ -8,11 +8,12 @@ ghost use Rattle.numbers.specs.Rounding.{precision_of};
 ghost use Rattle.numbers.specs.Cell.{wide, end_of, cell_rounding, RoundsEvery};
 ghost use Rattle.numbers.specs.Fraction.{scaled};
 
-use super::answer::{Accuracy, Answer};
+use super::answer::{Accuracy, Rounded};
 use super::number::Number;
 use super::task::{Task, is_precision, precision_of};
 use super::top::{claim_top, round_top};
 use super::words::{Cell, Words, leading_zeros, shift_left};
+use refusals::Refusal;
 
 // What is added to a 32-bit exponent.
 const RAISE: i64 = 2_147_483_648;
@@ -21,11 +22,11 @@ const RAISE: i64 = 2_147_483_648;
 // the magnitude lies above that, by less than 2^exponent. Every value there is rounded to the one answer
 // where there is no rest, or F has two bits more than the task asks, and the answer lies alike against all
 // of them; else the answer and its mark are those of F made odd, and may be those of no value there.
-pub fn round_cell(negative: bool, cell: Cell, exponent: i32, task: Task) -> Answer
+pub fn round_cell(negative: bool, cell: Cell, exponent: i32, task: Task) -> Result<Rounded, Refusal>
     ensures { (marked_answer result ≡ cell_rounding negative (wide cell.high cell.low) cell.rest exponent task) × RoundsEvery (marked_answer result) negative (wide cell.high cell.low) cell.rest exponent task }
 {
     if !is_precision(precision_of(task)) {
-        return Answer::BadPrecision;
+        return Err(Refusal::BadPrecision);
     }
     rounded(negative, raised(exponent), end_of(cell), task)
 }
@@ -56,13 +57,16 @@ fn end_of(cell: Cell) -> Words
 }
 
 // A two-word magnitude rounded once, or claimed exact, by its task.
-fn rounded(negative: bool, exponent: u64, magnitude: Words, task: Task) -> Answer
+fn rounded(negative: bool, exponent: u64, magnitude: Words, task: Task) -> Result<Rounded, Refusal>
     requires { (exponent < 2 ^ 32) × (1 ≤ precision_of task) × (precision_of task ≤ 64) }
     ensures { marked_answer result ≡ marked_by task (scaled negative (wide magnitude.high magnitude.low) exponent raise) }
 {
     if magnitude.high == 0 {
         if magnitude.low == 0 {
-            return Answer::Given(Number::Zero, Accuracy::Exact);
+            return Ok(Rounded {
+                number: Number::Zero,
+                accuracy: Accuracy::Exact,
+            });
         }
     }
     let zeros = leading_zeros(magnitude);

@@ -9,11 +9,12 @@ ghost use Rattle.numbers.specs.Number.{is_working_exponent};
 ghost use Rattle.numbers.specs.Cell.{wide};
 ghost use Rattle.numbers.specs.Magnitude.{told, rounded_top, claimed_top};
 
-use super::answer::{Accuracy, Answer};
+use super::answer::{Accuracy, Rounded};
 use super::decision::{accuracy_of, goes_up, has_fraction};
 use super::number::{Number, TOP_BIT};
 use super::task::{Claim, Rounding};
 use super::words::{Words, shift_right};
+use refusals::Refusal;
 
 // The exponent at which a magnitude with its top bit at bit 127 has the lowest working exponent.
 const LOWEST_AT_TOP: u64 = 2_147_417_986;
@@ -49,21 +50,21 @@ fn checked(
     zeros: u32,
     significand: u64,
     accuracy: Accuracy,
-) -> Answer
+) -> Result<Rounded, Refusal>
     requires { (exponent ≤ 2 ^ 32) × (zeros ≤ 127) }
     ensures { marked_answer result ≡ told accuracy (checked (Number.Finite negative (minus (exponent + 127) (raise + zeros)) significand)) }
 {
     if is_inside(exponent, zeros) {
-        Answer::Given(
-            Number::Finite {
+        Ok(Rounded {
+            number: Number::Finite {
                 negative,
                 exponent: unbiased(exponent - (zeros as u64 + LOWEST_AT_TOP)),
                 significand,
             },
             accuracy,
-        )
+        })
     } else {
-        Answer::ExponentOutside
+        Err(Refusal::ExponentOutside)
     }
 }
 
@@ -74,7 +75,7 @@ pub(crate) fn round_top(
     zeros: u32,
     top: Words,
     rounding: Rounding,
-) -> Answer
+) -> Result<Rounded, Refusal>
     requires { (exponent < 2 ^ 32) × (zeros ≤ 127) × (wide top.high top.low < 2 ^ 128) × (1 ≤ rounding.precision) × (rounding.precision ≤ 64) }
     ensures { marked_answer result ≡ rounded_top rounding.mode negative (minus (exponent + 127) (raise + zeros)) rounding.precision (wide top.high top.low) }
 {
@@ -104,7 +105,7 @@ pub(crate) fn claim_top(
     zeros: u32,
     top: Words,
     claim: Claim,
-) -> Answer
+) -> Result<Rounded, Refusal>
     requires { (exponent < 2 ^ 32) × (zeros ≤ 127) × (wide top.high top.low < 2 ^ 128) × (1 ≤ claim.precision) × (claim.precision ≤ 64) }
     ensures { marked_answer result ≡ claimed_top negative (minus (exponent + 127) (raise + zeros)) claim.precision (wide top.high top.low) }
 {
@@ -113,7 +114,7 @@ pub(crate) fn claim_top(
     let outside = !is_inside(exponent, zeros);
     let exact = !has_fraction(cell.low, cell.rest);
     if outside {
-        return Answer::ExponentOutside;
+        return Err(Refusal::ExponentOutside);
     }
     if exact {
         return checked(
@@ -124,5 +125,5 @@ pub(crate) fn claim_top(
             Accuracy::Exact,
         );
     }
-    Answer::TooManyBits
+    Err(Refusal::TooManyBits)
 }

@@ -1,5 +1,8 @@
 -- Marked outcomes: equal values have one, and so have values that no multiple of a fine grid tells apart; a task that gives a number gives a rounding,
 -- and a claim that holds gives the value.
+use Rattle.std.specs.Prelude.{Ok, Err}
+use Rattle.std.specs.declared.result.Result.{Result}
+use Rattle.refusals.specs.declared.Refusal.{Refusal}
 use mathlib.Core.Path.{◌≡◌, refl, sym, ap, ◌∙◌}
 use mathlib.Core.Logic.{inl, inr}
 use Prim.Native.Nat.{ℕ, ◌*◌, ◌^◌, ◌≤◌}
@@ -12,8 +15,7 @@ use Rattle.numbers.specs.Magnitude.{told}
 use Rattle.numbers.specs.Rounding.{round, precision_of}
 use Rattle.numbers.specs.declared.answer.Accuracy.{Accuracy}
 use Rattle.numbers.specs.declared.answer.Accuracy.TheVariants as accuracy
-use Rattle.numbers.specs.declared.answer.Answer.{Answer}
-use Rattle.numbers.specs.declared.answer.Answer.TheVariants as answer
+use Rattle.numbers.specs.declared.answer.Rounded.{Rounded}
 use Rattle.numbers.specs.declared.number.Number.{Number}
 use Rattle.numbers.specs.declared.number.Number.TheVariants.{Zero}
 use Rattle.numbers.specs.declared.task.Mode.{Mode}
@@ -48,16 +50,17 @@ unfolding marked
 marked_alike x y (given z) h = ap (marked_as z) (h z refl)
 marked_alike x y (refused k) h = refl
 
--- an answer that is marked as a number is the case of it
-pub given_answer : (a : Answer) (x : Number) (mark : Accuracy) → marked_answer a ≡ marked_as x mark → a ≡ answer.Given x mark
+-- an answer that is marked as a number gives it
+pub given_answer : (a : Result Rounded Refusal) (x : Number) (mark : Accuracy) → marked_answer a ≡ marked_as x mark → a ≡ Ok (record { number = x; accuracy = mark })
 unfolding marked_answer
-given_answer (answer.Given y own) x mark e = cc
-given_answer answer.UnknownMode x mark e = never cc
-given_answer answer.BadPrecision x mark e = never cc
-given_answer answer.FirstUnfit x mark e = never cc
-given_answer answer.SecondUnfit x mark e = never cc
-given_answer answer.ExponentOutside x mark e = never cc
-given_answer answer.TooManyBits x mark e = never cc
+given_answer (Ok r) x mark e = same r.number x r.accuracy mark e
+  where
+    answer : Number → Accuracy → Result Rounded Refusal
+    answer z own = Ok (record { number = z; accuracy = own })
+
+    same : (y x : Number) (own mark : Accuracy) → marked_as y own ≡ marked_as x mark → answer y own ≡ answer x mark
+    same y x own mark e = cc
+given_answer (Err refusal) x mark e = never cc
 
 -- ---- what a task gives
 

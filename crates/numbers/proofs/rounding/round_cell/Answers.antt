@@ -1,4 +1,5 @@
 -- `numbers::rounding::round_cell` meets its contract: what is added to the exponent is taken off again by the value.
+use Rattle.std.specs.Prelude.{Err}
 use mathlib.Core.Path.{◌≡◌, sym, ap, ◌∙◌}
 use mathlib.Core.Bool.{Bool, true, false}
 use Prim.Native.Nat.{ℕ}
@@ -10,7 +11,8 @@ use Rattle.numbers.specs.Accuracy.{Marked, marked_answer, marked_by}
 use Rattle.numbers.specs.Cell.{end_of, cell_rounding, RoundsEvery}
 use Rattle.numbers.specs.Rounding.{precision_of, is_precision}
 use Rattle.numbers.specs.Fraction.{scaled}
-use Rattle.numbers.specs.declared.answer.Answer.TheVariants.{BadPrecision}
+use Rattle.refusals.specs.Row.{row_number}
+use Rattle.refusals.specs.declared.Refusal.TheVariants.{BadPrecision}
 use Rattle.numbers.specs.declared.task.Task.{Task}
 use Rattle.numbers.proofs.Laws.Refusals.{precision_range}
 use Rattle.numbers.proofs.Laws.EveryValue.{scaled_binary, every_value}
@@ -18,8 +20,8 @@ use Rattle.numbers.proofs.rounding.round_cell.Goals as goal
 use Rattle.numbers.proofs.rounding.round_cell.Goals.{After-is_precision, Else-not-is_precision}
 
 module _ (negative : Bool) (F : ℕ) (rest : Bool) (e : ℤ) (task : Task) where
-  refused : is_precision (precision_of task) ≡ false → marked_answer BadPrecision ≡ cell_rounding negative F rest e task
-  unfolding marked_answer cell_rounding
+  refused : is_precision (precision_of task) ≡ false → marked_answer (Err BadPrecision) ≡ cell_rounding negative F rest e task
+  unfolding marked_answer row_number cell_rounding
   refused h = rw h
 
   given : is_precision (precision_of task) ≡ true → (x M : ℕ) → e ≡ minus x raise → M ≡ end_of F rest

@@ -1,4 +1,5 @@
 -- `numbers::rounding::rounded` meets its contract: shifted to its top bit the magnitude is rounded or claimed there, and the laws of Top carry that to its value.
+use Rattle.std.specs.Prelude.{Ok}
 use mathlib.Core.Path.{◌≡◌, sym, ap, ◌∙◌}
 use mathlib.Core.Bool.{Bool}
 use Prim.Native.Nat.{ℕ, ◌+◌, ◌*◌, ◌^◌, ◌≤◌, ◌<◌}
@@ -13,7 +14,6 @@ use Rattle.numbers.specs.Cell.{wide}
 use Rattle.numbers.specs.Magnitude.{told, rounded_top, claimed_top}
 use Rattle.numbers.specs.Fraction.{scaled}
 use Rattle.numbers.specs.declared.answer.Accuracy.TheVariants as accuracy
-use Rattle.numbers.specs.declared.answer.Answer.TheVariants.{Given}
 use Rattle.numbers.specs.declared.number.Number.TheVariants.{Zero}
 use Rattle.numbers.specs.declared.task.Claim.{Claim}
 use Rattle.numbers.specs.declared.task.Mode.TheVariants.{Trunc}
@@ -29,7 +29,7 @@ use Rattle.numbers.proofs.rounding.rounded.Goals as goal
 use Rattle.numbers.proofs.rounding.rounded.Goals.{then-magnitude-eq0+else-magnitude-eq0-2, else-magnitude-eq0}
 
 -- no bit is set
-nothing : (task : Task) (negative : Bool) (high low x : ℕ) → high ≡ 0 → low ≡ 0 → marked_answer (Given Zero accuracy.Exact) ≡ marked_by task (scaled negative (wide high low) x raise)
+nothing : (task : Task) (negative : Bool) (high low x : ℕ) → high ≡ 0 → low ≡ 0 → marked_answer (Ok (record { number = Zero; accuracy = accuracy.Exact })) ≡ marked_by task (scaled negative (wide high low) x raise)
 unfolding marked_answer wide
 nothing task negative high low x h l = rw (h, l) (sym (zero_mark task (scaled negative 0 x raise) (abs_signed negative (0 * 2 ^ x) ∙ zero-mul (2 ^ x))))
 

@@ -1,4 +1,5 @@
 -- `numbers::top::checked` meets its contract: the exponent is (exponent + 127) - (2^31 + zeros).
+use Rattle.std.specs.Prelude.{Ok, Err}
 use mathlib.Core.Path.{◌≡◌, sym, ◌∙◌}
 use mathlib.Core.Bool.{Bool, true, false}
 use Prim.Native.Nat.{ℕ, ◌+◌, ◌-◌, ◌≤◌}
@@ -14,15 +15,16 @@ use Rattle.numbers.specs.Answer.{checked}
 use Rattle.numbers.specs.Magnitude.{told}
 use Rattle.numbers.specs.Number.{is_working_exponent}
 use Rattle.numbers.specs.declared.answer.Accuracy.{Accuracy}
-use Rattle.numbers.specs.declared.answer.Answer.TheVariants.{Given, ExponentOutside}
+use Rattle.refusals.specs.Row.{row_number}
+use Rattle.refusals.specs.declared.Refusal.TheVariants.{ExponentOutside}
 use Rattle.numbers.specs.declared.number.Number.TheVariants.{Finite}
 use Rattle.numbers.proofs.Laws.Minus.{minus_same}
 use Rattle.numbers.proofs.Laws.Bias.{working_range}
 use Rattle.numbers.proofs.top.checked.Goals as goal
 
 module _ (negative : Bool) (S x z : ℕ) (inside : Bool) (e : inside ≡ is_working_exponent (minus (x + 127) (raise + z))) where
-  outside : inside ≡ false → (mark : Accuracy) → marked_answer ExponentOutside ≡ told mark (checked (Finite negative (minus (x + 127) (raise + z)) S))
-  unfolding marked_answer told checked
+  outside : inside ≡ false → (mark : Accuracy) → marked_answer (Err ExponentOutside) ≡ told mark (checked (Finite negative (minus (x + 127) (raise + z)) S))
+  unfolding marked_answer row_number told checked
   outside h mark = rw (sym e ∙ h)
 
   -- 2,147,417,986 is 2^31 − 65,535 − 127
@@ -35,8 +37,8 @@ module _ (negative : Bool) (S x z : ℕ) (inside : Bool) (e : inside ≡ is_work
   same h = let r = working_range (x + 127) (raise + z) (sym e ∙ h) in minus_same (x - (z + 2147417986)) bias (x + 127) (raise + z) (omega (arith, r.0))
 
   fit : inside ≡ true → (r : ℤ) → SFits w32 r → r ≡ minus (x - (z + 2147417986)) bias → (mark : Accuracy)
-      → marked_answer (Given (Finite negative (to_z w32 (of_z w32 r)) S) mark) ≡ told mark (checked (Finite negative (minus (x + 127) (raise + z)) S))
-  unfolding marked_answer told checked
+      → marked_answer (Ok (record { number = Finite negative (to_z w32 (of_z w32 r)) S; accuracy = mark })) ≡ told mark (checked (Finite negative (minus (x + 127) (raise + z)) S))
+  unfolding marked_answer row_number told checked
   fit h r fits k mark = rw (to_z-of_z fits, k ∙ same h, sym e ∙ h)
 
 pub overflow_sub-exponent : goal.overflow_sub-exponent

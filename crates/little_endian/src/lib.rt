@@ -9,18 +9,10 @@ pub fn read(bytes: &[u8]) -> u64
     ensures { result ≡ little_endian bytes.now % 2 ^ 64 }
 {
     let mut w: u64 = 0;
-    let mut i = bytes.len();
-    while i > 0 {
-        i -= 1;
-        w = w % 0x100_0000_0000_0000 * 256 + word(bytes[i]);
+    for &byte in bytes.iter().rev() {
+        w = w % 0x100_0000_0000_0000 * 256 + u64::from(byte);
     }
     w
-}
-
-fn word(byte: u8) -> u64
-    ensures { result ≡ byte }
-{
-    byte as u64
 }
 
 // Fills the bytes with a number; what they have no room for is dropped.
@@ -28,10 +20,8 @@ pub fn write(bytes: &mut [u8], w: u64)
     ensures { bytes.new ≡ bytes_of (length bytes.old) w }
 {
     let mut left = w;
-    let mut i = 0;
-    while i < bytes.len() {
-        bytes[i] = (left % 256) as u8;
-        left = left / 256;
-        i += 1;
+    for byte in bytes.iter_mut() {
+        *byte = (left % 256) as u8;
+        left /= 256;
     }
 }

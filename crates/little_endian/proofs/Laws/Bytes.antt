@@ -7,8 +7,8 @@ use native.Mathlib.Omega.{arith}
 use lib.Arith.{digits_div}
 use lib.Dec.{lit<}
 use lib.Pow.{pow-add}
-use lib.ListN.{length, get_or, take, drop, replicate, length-drop, take-append-drop, drop_of_length-le}
-use lib.Seq.{length-take-le, take_all, take_at, drop_at, drop-cons, get_or-drop}
+use lib.ListN.{length, take, drop, replicate, length-drop, take-append-drop, drop_of_length-le}
+use lib.Seq.{length-take-le, take_all, take_at, drop_at, get_or-drop}
 use Rattle.little_endian.specs.Bytes.{little_endian, bytes_of, IsBytes}
 
 -- 256^n is 2^(8 × n)
@@ -76,12 +76,6 @@ bytes_append (suc m) n w = rw (suc-add m n, pow-succ' 256 m, ← div-div-eq-div-
 pub bytes_more : (n w : ℕ) → bytes_of (n + 1) w ≡ bytes_of n w ++ (w / 256 ^ n % 256 ∷ [])
 unfolding bytes_of
 bytes_more n w = bytes_append n 1 w
-
--- one more byte, read from the end into a word: it comes in below
-pub read_more : (bytes : List ℕ) (i w b : ℕ) → i < length bytes → b ≡ get_or bytes i 0 → b < 256 → w ≡ little_endian (drop (suc i) bytes) % 2 ^ 64
-    → w % 2 ^ 56 * 256 + b ≡ little_endian (drop i bytes) % 2 ^ 64
-unfolding little_endian
-read_more bytes i w b h eb small ew = rw (drop-cons bytes i 0 h, ← eb, ew) (omega arith)
 
 -- a word has room for eight bytes
 pub read_whole : (bytes : List ℕ) → IsBytes bytes → length bytes ≤ 8 → little_endian bytes % 2 ^ 64 ≡ little_endian bytes

@@ -1,20 +1,15 @@
--- `little_endian::write` meets its contract. The loop goes up: the first i bytes are those of w, and `left` is what they do not hold.
+-- `little_endian::write` meets its contract. The loop goes up: the first bytes are those of w, and `left` is what they do not hold.
 use mathlib.Core.Path.{◌≡◌}
 use mathlib.Core.List.{List}
-use Prim.Native.Nat.{ℕ, ◌-◌, ◌/◌, ◌^◌, ◌≤◌}
-use lib.ListN.{length, take}
+use Prim.Native.Nat.{ℕ, ◌/◌, ◌^◌}
+use lib.ListN.{take}
 use Rattle.little_endian.specs.Bytes.{bytes_of}
 use Rattle.little_endian.proofs.write.Given as goal
 
 -- i bytes of w are written over the old ones
-pub record Written (old : List ℕ) (w : ℕ) (bytes : List ℕ) (left i : ℕ) : Type 0 where
-  pub kept : length bytes ≡ length old
-  pub within : i ≤ length bytes
+pub record Written (w : ℕ) (bytes : List ℕ) (left i : ℕ) : Type 0 where
   pub holds : take i bytes ≡ bytes_of i w
   pub rest : left ≡ w / 256 ^ i
 
-abbrev pub invariant-loop-i : goal.invariant-loop-i
-invariant-loop-i l = Written l.initial.bytes l.w l.bytes l.left l.i
-
-abbrev pub decreases-loop-i : goal.decreases-loop-i
-decreases-loop-i l = length l.initial.bytes - l.i
+abbrev pub invariant-loop-byte : goal.invariant-loop-byte
+invariant-loop-byte l = Written l.w l.bytes l.left l.byte-index

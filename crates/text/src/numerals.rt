@@ -23,14 +23,14 @@ impl Text {
         self.with_bytes(&digits[..count])
     }
 
-    // The text with x in decimal more, a minus before it where x is negative. `!x` is −x − 1.
+    // The text with x in decimal more, a minus before it where x is negative.
     pub fn with_integer(self, x: i32) -> Text
         ensures { text_of result ≡ cut (text_of self ++ integer_text x) }
     {
+        let magnitude = u64::from(x.unsigned_abs());
         if x < 0 {
-            let below = !x;
-            return self.with_bytes(b"-").with_decimal(below as u64 + 1);
+            return self.with_bytes(b"-").with_decimal(magnitude);
         }
-        self.with_decimal(x as u64)
+        self.with_decimal(magnitude)
     }
 }

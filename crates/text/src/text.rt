@@ -7,6 +7,8 @@ ghost use Rattle.text.specs.Text.{text_of, cut};
 pub const CAPACITY: usize = 192;
 
 // The bytes before `length` are the text; those behind it mean nothing.
+// Kept: an array with its length beside. A text is `Copy`, and its readers take both fields; an
+// `ArrayVec` isn't.
 #[derive(Clone, Copy)]
 pub struct Text {
     pub bytes: [u8; CAPACITY],
@@ -28,27 +30,18 @@ impl Text {
     pub fn count(self) -> usize
         ensures { result ≡ length (text_of self) }
     {
-        let length = self.length;
-        if length > CAPACITY {
-            return CAPACITY;
-        }
-        length
+        self.length.min(CAPACITY)
     }
 
     // The text with one byte more, or as it is where it is full.
-    pub fn with_byte(self, byte: u8) -> Text
+    pub fn with_byte(mut self, byte: u8) -> Text
         ensures { text_of result ≡ cut (text_of self ++ (byte ∷ [])) }
     {
-        let at = self.length;
-        if at >= CAPACITY {
-            return self;
+        if self.length < CAPACITY {
+            self.bytes[self.length] = byte;
+            self.length += 1;
         }
-        let mut bytes = self.bytes;
-        bytes[at] = byte;
-        Text {
-            bytes,
-            length: at + 1,
-        }
+        self
     }
 
     // The text with these bytes more, as many as have room.
@@ -56,10 +49,8 @@ impl Text {
         ensures { text_of result ≡ cut (text_of self ++ more.now) }
     {
         let mut text = self;
-        let mut i = 0;
-        while i < more.len() {
-            text = text.with_byte(more[i]);
-            i += 1;
+        for byte in more {
+            text = text.with_byte(*byte);
         }
         text
     }

@@ -4,10 +4,10 @@ use Rattle.text.specs.Text.{text_of}
 use Rattle.text.proofs.Laws.Cut.{full, stored}
 use Rattle.text.proofs.text.Text.with_byte.Goals as goal
 
-pub returns-then-at-ge-CAPACITY : goal.returns-then-at-ge-CAPACITY
+pub returns-then-self-lt-CAPACITY : goal.returns-then-self-lt-CAPACITY
 unfolding text_of
-returns-then-at-ge-CAPACITY c = full c.args.self.bytes c.args.self.length (search rules) _ c.if-at-ge-CAPACITY.true
+returns-then-self-lt-CAPACITY c = stored c.args.self.bytes c.args.self.length (search rules) c.args.byte c.if-self-lt-CAPACITY.true
 
-pub returns : goal.returns
+pub returns-else-self-lt-CAPACITY : goal.returns-else-self-lt-CAPACITY
 unfolding text_of
-returns c = stored c.args.self.bytes c.args.self.length (search rules) c.args.byte c.if-at-ge-CAPACITY.false
+returns-else-self-lt-CAPACITY c = full c.args.self.bytes c.args.self.length (search rules) _ c.if-self-lt-CAPACITY.false

@@ -1,7 +1,9 @@
 -- Document 01, "Rounding to n bits, n from 1 to 64". In the formulas 2^e is the fraction up e / down e of Float.Ieee of std; these are not the modes Up and Down.
-use Rattle.std.specs.Prelude.{Bool, false, not, ◌&&◌, ◌||◌, cond, ℕ, ◌+◌, ◌-◌, ◌*◌, ◌/◌, ◌%◌, ◌^◌, leb, ltb, eqb, ℤ, nat_abs}
+use Rattle.std.specs.Prelude.{◌≡◌, ◌<◌, Result, MatchResult, Bool, false, not, ◌&&◌, ◌||◌, cond, ℕ, ◌+◌, ◌-◌, ◌*◌, ◌/◌, ◌%◌, ◌^◌, leb, ltb, eqb, ℤ, nat_abs}
 use Rattle.std.specs.Float.Ieee.{size, up, down, minus}
 use Rattle.std.proofs.Math.IntN.{suc_ℤ, pred_ℤ}
+use Rattle.refusals.specs.declared.Refusal.{Refusal}
+use Rattle.refusals.specs.declared.Refusal.TheVariants.{UnknownMode}
 use Rattle.numbers.specs.Fraction.{Fraction, is_negative}
 use Rattle.numbers.specs.declared.number.Number.{Number}
 use Rattle.numbers.specs.declared.number.Number.TheVariants.{Zero, Finite}
@@ -59,6 +61,18 @@ round mode n x =
 -- "6 exact claim: no rounding; the value must have at most n significant bits." a / b has, where scaled it is a whole number.
 unfoldable pub has_at_most_bits : ℕ → ℕ → ℕ → Bool
 has_at_most_bits n a b = let e = exponent_of a b in eqb (scaled_numerator n e a % scaled_denominator e b) 0
+
+-- the codes of the modes, "0 trunc .. 5 down", and the mode with a code, or the refusal of a code that no mode has
+abbrev pub code_of : Mode → ℕ
+code_of Trunc = 0
+code_of Away = 1
+code_of Near = 2
+code_of Sticky = 3
+code_of Up = 4
+code_of Down = 5
+
+abbrev pub IsModeOf : ℕ → Result Mode Refusal → Type 0
+IsModeOf code r = MatchResult r (λ mode. code_of mode ≡ code) (λ refusal. (refusal ≡ UnknownMode) × (5 < code))
 
 -- "The task of a step is a rounding mode with a precision, or an exactness claim." By the mode codes 0 to 6; a code above 6 is refused before.
 abbrev pub by_mode : Mode → ℕ → Task

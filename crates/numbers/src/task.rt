@@ -1,6 +1,8 @@
 // The task of a step: a rounding mode with a precision, or an exactness claim.
 ghost use Rattle.std.specs.Prelude.{◌≡◌};
-ghost use Rattle.numbers.specs.Rounding.{task_of, precision_of, is_precision};
+ghost use Rattle.numbers.specs.Rounding.{IsModeOf, task_of, precision_of, is_precision};
+
+use refusals::Refusal;
 
 // The largest precision; the smallest is 1.
 const LARGEST_PRECISION: u32 = 64;
@@ -14,6 +16,25 @@ pub enum Mode {
     Sticky,
     Up,
     Down,
+}
+
+impl TryFrom<u32> for Mode {
+    type Error = Refusal;
+
+    ghost try_from_gives = { IsModeOf };
+
+    // The mode with this code.
+    fn try_from(code: u32) -> Result<Mode, Refusal> {
+        match code {
+            0 => Ok(Mode::Trunc),
+            1 => Ok(Mode::Away),
+            2 => Ok(Mode::Near),
+            3 => Ok(Mode::Sticky),
+            4 => Ok(Mode::Up),
+            5 => Ok(Mode::Down),
+            _ => Err(Refusal::UnknownMode),
+        }
+    }
 }
 
 // A rounding mode with a precision.
@@ -41,32 +62,9 @@ pub enum Task {
 pub fn task_of(code: u32, precision: u32) -> Task
     ensures { result ≡ task_of code precision }
 {
-    match code {
-        0 => Task::Round(Rounding {
-            mode: Mode::Trunc,
-            precision,
-        }),
-        1 => Task::Round(Rounding {
-            mode: Mode::Away,
-            precision,
-        }),
-        2 => Task::Round(Rounding {
-            mode: Mode::Near,
-            precision,
-        }),
-        3 => Task::Round(Rounding {
-            mode: Mode::Sticky,
-            precision,
-        }),
-        4 => Task::Round(Rounding {
-            mode: Mode::Up,
-            precision,
-        }),
-        5 => Task::Round(Rounding {
-            mode: Mode::Down,
-            precision,
-        }),
-        _ => Task::Exact(Claim { precision }),
+    match Mode::try_from(code) {
+        Ok(mode) => Task::Round(Rounding { mode, precision }),
+        Err(_) => Task::Exact(Claim { precision }),
     }
 }
 
@@ -74,10 +72,7 @@ pub fn task_of(code: u32, precision: u32) -> Task
 pub fn is_precision(n: u32) -> bool
     ensures { result ≡ is_precision n }
 {
-    if 1 <= n {
-        return n <= LARGEST_PRECISION;
-    }
-    false
+    1 <= n && n <= LARGEST_PRECISION
 }
 
 // The precision of the task.

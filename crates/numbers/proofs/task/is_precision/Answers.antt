@@ -7,6 +7,6 @@ pub returns-then-n-ge1 : goal.returns-then-n-ge1
 unfolding is_precision
 returns-then-n-ge1 c = rw (le-leb _ _ c.if-n-ge1.true)
 
-pub returns : goal.returns
+pub returns-else-n-ge1 : goal.returns-else-n-ge1
 unfolding is_precision
-returns c = rw (lt-leb _ _ c.if-n-ge1.false)
+returns-else-n-ge1 c = rw (lt-leb _ _ c.if-n-ge1.false)

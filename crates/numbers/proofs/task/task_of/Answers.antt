@@ -1,40 +1,29 @@
--- `numbers::task::task_of` meets its contract: each code has its own case of `task_of`.
-use mathlib.Core.Path.{◌≡◌}
-use Prim.Native.Nat.{ℕ}
+-- `numbers::task::task_of` meets its contract: each mode has its own case of `task_of`, and a code above 5 the last one.
+use mathlib.Core.Path.{◌≡◌, refl, ap, ◌∙◌}
+use Prim.Native.Nat.{ℕ, ◌<◌}
+use native.Mathlib.Omega.{arith}
 use borrow.Author.Tests.{ne_eqb}
-use Rattle.numbers.specs.Rounding.{task_of}
-use Rattle.numbers.specs.declared.task.Task.TheVariants.{Exact}
+use Rattle.numbers.specs.Rounding.{code_of, by_mode, claim, task_of}
+use Rattle.numbers.specs.declared.task.Mode.{Mode}
+use Rattle.numbers.specs.declared.task.Mode.TheVariants.{Trunc, Away, Near, Sticky, Up, Down}
 use Rattle.numbers.proofs.task.task_of.Goals as goal
 
-exact : (code n : ℕ) → (code ≡ 0 → ⊥) → (code ≡ 1 → ⊥) → (code ≡ 2 → ⊥) → (code ≡ 3 → ⊥) → (code ≡ 4 → ⊥) → (code ≡ 5 → ⊥) → Exact (record { precision = n }) ≡ task_of code n
+by_code : (mode : Mode) (n : ℕ) → by_mode mode n ≡ task_of (code_of mode) n
 unfolding task_of
-exact code n a b c d e f = rw (ne_eqb code 0 a, ne_eqb code 1 b, ne_eqb code 2 c, ne_eqb code 3 d, ne_eqb code 4 e, ne_eqb code 5 f)
+by_code Trunc n = refl
+by_code Away n = refl
+by_code Near n = refl
+by_code Sticky n = refl
+by_code Up n = refl
+by_code Down n = refl
 
-pub returns-in-0 : goal.returns-in-0
+above : (code n : ℕ) → 5 < code → claim n ≡ task_of code n
 unfolding task_of
-returns-in-0 c = rw c.in-0.is
+above code n h =
+    rw (ne_eqb code 0 (omega arith), ne_eqb code 1 (omega arith), ne_eqb code 2 (omega arith), ne_eqb code 3 (omega arith), ne_eqb code 4 (omega arith), ne_eqb code 5 (omega arith))
 
-pub returns-in-1 : goal.returns-in-1
-unfolding task_of
-returns-in-1 c = rw c.in-1.is
+pub returns-in-Ok : goal.returns-in-Ok
+returns-in-Ok c = by_code c.in-Ok.mode c.args.precision ∙ ap (λ (code : ℕ). task_of code c.args.precision) c.in-Ok.ensures
 
-pub returns-in-2 : goal.returns-in-2
-unfolding task_of
-returns-in-2 c = rw c.in-2.is
-
-pub returns-in-3 : goal.returns-in-3
-unfolding task_of
-returns-in-3 c = rw c.in-3.is
-
-pub returns-in-4 : goal.returns-in-4
-unfolding task_of
-returns-in-4 c = rw c.in-4.is
-
-pub returns-in-5 : goal.returns-in-5
-unfolding task_of
-returns-in-5 c = rw c.in-5.is
-
-pub returns-in_default : goal.returns-in_default
-returns-in_default c =
-    let r = c.in_default.in_default-own.rest in
-    exact _ _ r.0.0.0.0.0.1 r.0.0.0.0.1 r.0.0.0.1 r.0.0.1 r.0.1 r.1
+pub returns-in-Err : goal.returns-in-Err
+returns-in-Err c = above c.args.code c.args.precision c.in-Err.ensures.1

@@ -1,6 +1,7 @@
 -- The terms of the private contracts of `top` and `decision`. No promise of a public function cites this file.
-use Rattle.std.specs.Prelude.{Bool, true, false, cond, ℕ, ◌-◌, ◌*◌, ◌%◌, ◌^◌, leb, eqb, ℤ}
-use Rattle.std.specs.Float.Ieee.{unlike}
+use Rattle.std.specs.Prelude.{Bool, true, false, cond, ℕ, ◌+◌, ◌-◌, ◌*◌, ◌%◌, ◌^◌, leb, eqb, ℤ}
+use Rattle.std.specs.Float.Ieee.{minus, unlike}
+use Rattle.numbers.specs.Biased.{raise}
 use Rattle.numbers.specs.Accuracy.{Marked, marked_as, refused_by}
 use Rattle.numbers.specs.Answer.{Outcome, given, refused, checked, judged}
 use Rattle.numbers.specs.Number.{is_working_exponent}
@@ -8,7 +9,12 @@ use Rattle.numbers.specs.Rounding.{whole_of, placed}
 use Rattle.numbers.specs.declared.answer.Accuracy.{Accuracy}
 use Rattle.numbers.specs.declared.answer.Accuracy.TheVariants as accuracy
 use Rattle.numbers.specs.declared.task.Mode.{Mode}
+use Rattle.numbers.specs.declared.top.Top.{Top}
 use Rattle.numbers.specs.declared.task.Mode.TheVariants.{Trunc}
+
+-- the exponent of a magnitude with its top bit at bit 127
+abbrev pub exponent_of_top : Top → ℤ
+exponent_of_top top = minus (top.exponent + 127) (raise + top.zeros)
 
 -- an outcome whose number has a known accuracy
 unfoldable pub told : Accuracy → Outcome → Marked

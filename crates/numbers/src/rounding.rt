@@ -11,7 +11,7 @@ ghost use Rattle.numbers.specs.Fraction.{scaled};
 use super::answer::{Accuracy, Rounded};
 use super::number::Number;
 use super::task::{Task, is_precision, precision_of};
-use super::top::{claim_top, round_top};
+use super::top::Top;
 use super::words::{Cell, Words, leading_zeros, shift_left};
 use refusals::Refusal;
 
@@ -70,9 +70,14 @@ fn rounded(negative: bool, exponent: u64, magnitude: Words, task: Task) -> Resul
         }
     }
     let zeros = leading_zeros(magnitude);
-    let top = shift_left(magnitude, zeros);
+    let top = Top {
+        negative,
+        exponent,
+        zeros,
+        magnitude: shift_left(magnitude, zeros),
+    };
     match task {
-        Task::Round(rounding) => round_top(negative, exponent, zeros, top, rounding),
-        Task::Exact(claim) => claim_top(negative, exponent, zeros, top, claim),
+        Task::Round(rounding) => top.rounded(rounding),
+        Task::Exact(claim) => top.claimed(claim),
     }
 }

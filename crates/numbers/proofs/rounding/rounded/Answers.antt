@@ -81,22 +81,22 @@ leading_zeros-zeros-requires c =
       | else-magnitude-eq0 w ↦ high_set _ _ w.if-magnitude-eq0.false
     ]
 
-pub round_top-requires : goal.round_top-requires
-round_top-requires c =
+pub rounded-requires : goal.rounded-requires
+rounded-requires c =
     let n = precision _ c.requires.1 c.requires.2 _ c.in-Round.is in
-    (c.requires.0, c.leading_zeros-zeros.ensures.0, still _ _ _ c.shift_left-top.ensures c.leading_zeros-zeros.ensures.2, n.0, n.1)
+    (c.requires.0, still _ _ _ c.shift_left.ensures c.leading_zeros-zeros.ensures.2, n.0, n.1)
 
-pub claim_top-requires : goal.claim_top-requires
-claim_top-requires c =
+pub claimed-requires : goal.claimed-requires
+claimed-requires c =
     let n = precision _ c.requires.1 c.requires.2 _ c.in-Exact.is in
-    (c.requires.0, c.leading_zeros-zeros.ensures.0, still _ _ _ c.shift_left-top.ensures c.leading_zeros-zeros.ensures.2, n.0, n.1)
+    (still _ _ _ c.shift_left.ensures c.leading_zeros-zeros.ensures.2, n.0, n.1)
 
 pub returns-in-Round : goal.returns-in-Round
 returns-in-Round c =
-    c.round_top.ensures
-    ∙ round_value _ c.requires.1 c.requires.2 _ _ _ _ _ c.leading_zeros-zeros.ensures.1 c.leading_zeros-zeros.ensures.2 c.shift_left-top.ensures _ c.in-Round.is
+    c.rounded.ensures
+    ∙ round_value _ c.requires.1 c.requires.2 _ _ _ _ _ c.leading_zeros-zeros.ensures.1 c.leading_zeros-zeros.ensures.2 c.shift_left.ensures _ c.in-Round.is
 
 pub returns-in-Exact : goal.returns-in-Exact
 returns-in-Exact c =
-    c.claim_top.ensures
-    ∙ claim_value _ c.requires.1 c.requires.2 _ _ _ _ _ c.leading_zeros-zeros.ensures.1 c.leading_zeros-zeros.ensures.2 c.shift_left-top.ensures _ c.in-Exact.is
+    c.claimed.ensures
+    ∙ claim_value _ c.requires.1 c.requires.2 _ _ _ _ _ c.leading_zeros-zeros.ensures.1 c.leading_zeros-zeros.ensures.2 c.shift_left.ensures _ c.in-Exact.is

@@ -1,4 +1,4 @@
--- `numbers::top::claim_top` meets its contract: the exponent is judged first, then whether a bit below the upper n is set.
+-- `numbers::top::Top::claimed` meets its contract: the exponent is judged first, then whether a bit below the upper n is set.
 use mathlib.Core.Path.{◌≡◌, sym, ap, ◌∙◌}
 use mathlib.Core.Bool.{Bool, true, false}
 use Prim.Native.Nat.{ℕ, ◌+◌, ◌-◌, ◌*◌, ◌/◌, ◌%◌, ◌^◌, ◌≤◌, ◌<◌}
@@ -19,7 +19,7 @@ use Rattle.numbers.specs.declared.answer.Accuracy.TheVariants as accuracy
 use Rattle.numbers.specs.declared.number.Number.{Number}
 use Rattle.numbers.specs.declared.number.Number.TheVariants.{Finite}
 use Rattle.numbers.proofs.Laws.Top.{top_bits, upper_bits}
-use Rattle.numbers.proofs.top.claim_top.Goals as goal
+use Rattle.numbers.proofs.top.Top.claimed.Goals as goal
 
 outside : (negative : Bool) (e : ℤ) (n F : ℕ) (inside : Bool) → inside ≡ is_working_exponent e → inside ≡ false → marked_answer (Err ExponentOutside) ≡ claimed_top negative e n F
 unfolding marked_answer row_number told claimed_top judged
@@ -46,10 +46,10 @@ returns-then-outside c = outside _ _ _ _ _ c.is_inside-outside.ensures c.if-outs
 pub returns-then-exact : goal.returns-then-exact
 returns-then-exact c =
     c.checked.ensures
-    ∙ none _ _ _ _ _ _ c.shift_right-cell.result.rest _ _ c.requires.4 c.struct_known-then-exact-1.given.1.0.fits c.shift_right-cell.ensures.0 c.shift_right-cell.ensures.1 c.is_inside-outside.ensures c.has_fraction-exact.ensures
-    c.requires.2 c.if-outside.false c.if-exact.true
+    ∙ none _ _ _ _ _ _ c.shift_right-cell.result.rest _ _ c.requires.2 c.struct_known-then-exact-1.given.1.0.fits c.shift_right-cell.ensures.0 c.shift_right-cell.ensures.1 c.is_inside-outside.ensures c.has_fraction-exact.ensures
+    c.requires.0 c.if-outside.false c.if-exact.true
 
 pub returns : goal.returns
 returns c =
-    too_many _ _ _ _ _ _ c.shift_right-cell.result.rest _ _ c.requires.4 (omega arith) c.shift_right-cell.ensures.0 c.shift_right-cell.ensures.1 c.is_inside-outside.ensures c.has_fraction-exact.ensures
+    too_many _ _ _ _ _ _ c.shift_right-cell.result.rest _ _ c.requires.2 (omega arith) c.shift_right-cell.ensures.0 c.shift_right-cell.ensures.1 c.is_inside-outside.ensures c.has_fraction-exact.ensures
     c.if-outside.false c.if-exact.false

@@ -1,4 +1,4 @@
--- `numbers::top::round_top` meets its contract: the upper n bits are the whole number that `whole_of` starts from, and each way out places
+-- `numbers::top::Top::rounded` meets its contract: the upper n bits are the whole number that `whole_of` starts from, and each way out places
 -- the whole number that `whole_of` gives.
 use mathlib.Core.Path.{◌≡◌, sym, ap, ap₂, ◌∙◌}
 use mathlib.Core.Bool.{Bool, true, false, cond}
@@ -21,7 +21,7 @@ use Rattle.numbers.specs.declared.number.Number.TheVariants.{Finite}
 use Rattle.numbers.specs.declared.task.Mode.{Mode}
 use Rattle.numbers.proofs.Laws.Minus.{suc_minus}
 use Rattle.numbers.proofs.Laws.Top.{top_whole, top_accuracy, high_small, significand_is, placed_same, placed_carry, placed_next}
-use Rattle.numbers.proofs.top.round_top.Goals as goal
+use Rattle.numbers.proofs.top.Top.rounded.Goals as goal
 
 module _ (mode : Mode) (negative : Bool) (x z F n high low : ℕ) (rest up inexact : Bool) (mark : Accuracy) (n0 : 1 ≤ n) (n1 : n ≤ 64) (F1 : F < 2 ^ 128) (word : low < 2 ^ 64)
     (shifted : wide high low ≡ F / 2 ^ (64 - n)) (dropped : rest ≡ ltb 0 (F % 2 ^ (64 - n)))
@@ -79,7 +79,7 @@ overflow_shl-significand c = omega arith
 pub returns-then-not-up : goal.returns-then-not-up
 returns-then-not-up c =
     c.checked.ensures
-    ∙ (stays _ _ _ _ _ _ _ _ c.shift_right-cell.result.rest _ _ _ c.requires.3 c.requires.4 c.requires.2 c.struct_known-2-1.given.1.0.fits c.shift_right-cell.ensures.0 c.shift_right-cell.ensures.1
+    ∙ (stays _ _ _ _ _ _ _ _ c.shift_right-cell.result.rest _ _ _ c.requires.2 c.requires.3 c.requires.1 c.struct_known-2-1.given.1.0.fits c.shift_right-cell.ensures.0 c.shift_right-cell.ensures.1
     c.goes_up-up.ensures c.has_fraction-inexact.ensures c.accuracy_of-accuracy.ensures c.if-not-up.true)
 
 pub overflow_shl-unit : goal.overflow_shl-unit
@@ -88,11 +88,11 @@ overflow_shl-unit c = omega arith
 pub returns-then-significand-unit : goal.returns-then-significand-unit
 returns-then-significand-unit c =
     c.checked-then-significand-unit.ensures
-    ∙ (carries _ _ _ _ _ _ _ _ c.shift_right-cell.result.rest _ _ _ c.requires.3 c.requires.4 c.requires.2 c.struct_known-2-1.given.1.0.fits c.shift_right-cell.ensures.0 c.shift_right-cell.ensures.1
+    ∙ (carries _ _ _ _ _ _ _ _ c.shift_right-cell.result.rest _ _ _ c.requires.2 c.requires.3 c.requires.1 c.struct_known-2-1.given.1.0.fits c.shift_right-cell.ensures.0 c.shift_right-cell.ensures.1
     c.goes_up-up.ensures c.has_fraction-inexact.ensures c.accuracy_of-accuracy.ensures c.if-not-up.false c.if-significand-unit.true)
 
 pub returns-else-significand-unit : goal.returns-else-significand-unit
 returns-else-significand-unit c =
     c.checked-else-significand-unit.ensures
-    ∙ (goes_on _ _ _ _ _ _ _ _ c.shift_right-cell.result.rest _ _ _ c.requires.3 c.requires.4 c.requires.2 c.struct_known-2-1.given.1.0.fits c.shift_right-cell.ensures.0 c.shift_right-cell.ensures.1
+    ∙ (goes_on _ _ _ _ _ _ _ _ c.shift_right-cell.result.rest _ _ _ c.requires.2 c.requires.3 c.requires.1 c.struct_known-2-1.given.1.0.fits c.shift_right-cell.ensures.0 c.shift_right-cell.ensures.1
     c.goes_up-up.ensures c.has_fraction-inexact.ensures c.accuracy_of-accuracy.ensures c.if-not-up.false c.if-significand-unit.false)

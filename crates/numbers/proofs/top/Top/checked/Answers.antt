@@ -1,4 +1,4 @@
--- `numbers::top::checked` meets its contract: the exponent is (exponent + 127) - (2^31 + zeros).
+-- `numbers::top::Top::checked` meets its contract: the exponent is (exponent + 127) - (2^31 + zeros).
 use Rattle.std.specs.Prelude.{Ok, Err}
 use mathlib.Core.Path.{◌≡◌, sym, ◌∙◌}
 use mathlib.Core.Bool.{Bool, true, false}
@@ -20,7 +20,7 @@ use Rattle.refusals.specs.declared.Refusal.TheVariants.{ExponentOutside}
 use Rattle.numbers.specs.declared.number.Number.TheVariants.{Finite}
 use Rattle.numbers.proofs.Laws.Minus.{minus_same}
 use Rattle.numbers.proofs.Laws.Bias.{working_range}
-use Rattle.numbers.proofs.top.checked.Goals as goal
+use Rattle.numbers.proofs.top.Top.checked.Goals as goal
 
 module _ (negative : Bool) (S x z : ℕ) (inside : Bool) (e : inside ≡ is_working_exponent (minus (x + 127) (raise + z))) where
   outside : inside ≡ false → (mark : Accuracy) → marked_answer (Err ExponentOutside) ≡ told mark (checked (Finite negative (minus (x + 127) (raise + z)) S))
@@ -41,11 +41,11 @@ module _ (negative : Bool) (S x z : ℕ) (inside : Bool) (e : inside ≡ is_work
   unfolding marked_answer row_number told checked
   fit h r fits k mark = rw (to_z-of_z fits, k ∙ same h, sym e ∙ h)
 
-pub overflow_sub-exponent : goal.overflow_sub-exponent
-overflow_sub-exponent c = (range c.args.negative c.args.significand _ _ _ c.is_inside.ensures c.if-is_inside.true).0
+pub overflow_sub-self : goal.overflow_sub-self
+overflow_sub-self c = (range c.args.self.negative c.args.significand _ _ _ c.is_inside.ensures c.if-is_inside.true).0
 
 pub unbiased-requires : goal.unbiased-requires
-unbiased-requires c = (range c.args.negative c.args.significand _ _ _ c.is_inside.ensures c.if-is_inside.true).1
+unbiased-requires c = (range c.args.self.negative c.args.significand _ _ _ c.is_inside.ensures c.if-is_inside.true).1
 
 pub returns-then-is_inside : goal.returns-then-is_inside
 returns-then-is_inside c = fit _ _ _ _ _ c.is_inside.ensures c.if-is_inside.true _ (record { sfits = c.unbiased.type_inv }) c.unbiased.ensures _

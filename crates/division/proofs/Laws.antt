@@ -3,9 +3,8 @@
 pub mod Range
 pub mod Admissible
 pub mod Quotients
--- What is refused before, and an answer that is a number
+-- What is refused before
 pub mod Divisible
-pub mod Given
 -- The seed table, and a Newton step of the reciprocal
 pub mod Seeds
 pub mod Newton

@@ -1,13 +1,10 @@
 -- What is asked before a division: rows 1 to 5.
 use Rattle.std.specs.Prelude.{◌≡◌, ℕ, ◌≤◌, true, false}
-use Rattle.numbers.specs.Answer.{Outcome, refused}
 use Rattle.numbers.specs.Number.{is_admissible}
 use Rattle.numbers.specs.Rounding.{precision_of}
 use Rattle.numbers.specs.declared.number.Number.{Number}
 use Rattle.numbers.specs.declared.task.Task.{Task}
 use Rattle.division.specs.Quotient.{is_zero}
-use Rattle.division.specs.declared.judgement.Judgement.{Judgement}
-use Rattle.division.specs.declared.judgement.Judgement.TheVariants.{Divisible, UnknownMode, BadPrecision, FirstUnfit, SecondUnfit, ZeroDivisor}
 
 -- No row from 1 to 5 applies: "divide takes admissible ones and code 0 to 5", the precision is from 1 to 64, and the divisor is not zero.
 pub record IsTaken (p d : Number) (code n : ℕ) : Type 0 where
@@ -16,15 +13,6 @@ pub record IsTaken (p d : Number) (code n : ℕ) : Type 0 where
   pub dividend : is_admissible p ≡ true
   pub divisor : is_admissible d ≡ true
   pub nonzero : is_zero d ≡ false
-
--- What a judgement makes of the answer x: the row that refuses, or x itself. `judged` makes of every x what `unless_indivisible` does.
-unfoldable pub answered_by : Judgement → Outcome → Outcome
-answered_by Divisible x = x
-answered_by UnknownMode x = refused 1
-answered_by BadPrecision x = refused 2
-answered_by FirstUnfit x = refused 3
-answered_by SecondUnfit x = refused 4
-answered_by ZeroDivisor x = refused 5
 
 -- a task with a precision from 1 to 64, for private contracts
 abbrev pub IsTask : Task → Type 0

@@ -3,21 +3,9 @@ use Rattle.std.specs.Prelude.{ℕ, Bool, true, false, cond}
 use Rattle.numbers.specs.Number.{is_admissible}
 use Rattle.numbers.specs.Fraction.{value, quotient}
 use Rattle.numbers.specs.Rounding.{task_of}
-use Rattle.numbers.specs.Accuracy.{Marked, marked_as, refused_by}
 use Rattle.numbers.specs.Answer.{Outcome, refused, rounded, unless_unknown, unless_either_unfit}
 use Rattle.numbers.specs.declared.number.Number.{Number}
 use Rattle.numbers.specs.declared.number.Number.TheVariants.{Zero, Finite}
-use Rattle.division.specs.declared.answer.Quotient.{Quotient}
-use Rattle.division.specs.declared.answer.Quotient.TheVariants.{Given, UnknownMode, BadPrecision, FirstUnfit, SecondUnfit, ZeroDivisor}
-
--- "Where an answer is an enum, a definition gives this paper's number and values for each case of the enum"
-unfoldable pub marked_quotient : Quotient → Marked
-marked_quotient (Given x mark) = marked_as x mark
-marked_quotient UnknownMode = refused_by 1
-marked_quotient BadPrecision = refused_by 2
-marked_quotient FirstUnfit = refused_by 3
-marked_quotient SecondUnfit = refused_by 4
-marked_quotient ZeroDivisor = refused_by 5
 
 unfoldable pub is_zero : Number → Bool
 is_zero Zero = true

@@ -1,29 +1,18 @@
 // Rows 1 to 5 of document 01's table, which the quotient and the steps ask first.
 ghost use Rattle.std.specs.Prelude.{◌≡◌};
-ghost use Rattle.numbers.specs.Answer.{Outcome};
+ghost use Rattle.numbers.specs.Answer.{Outcome, unless_refused};
 ghost use Rattle.division.specs.Quotient.{is_zero, unless_indivisible};
-ghost use Rattle.division.specs.Judgement.{answered_by};
 
 use numbers::number::{Number, is_admissible};
 use numbers::task::is_precision;
+use refusals::Refusal;
 
 // The last mode code of a division.
 const LAST_CODE: u32 = 5;
 
-// The lowest row from 1 to 5 that applies, its number in the comment, or that none does.
-#[derive(Clone, Copy)]
-pub enum Judgement {
-    Divisible,
-    UnknownMode, // 1
-    BadPrecision, // 2
-    FirstUnfit, // 3
-    SecondUnfit, // 4
-    ZeroDivisor, // 5
-}
-
-// Judges a pair, a mode code and a precision.
-pub fn judged(p: Number, d: Number, code: u32, precision: u32) -> Judgement
-    ensures { (x : Outcome) → answered_by result x ≡ unless_indivisible p d code precision x }
+// Judges a pair, a mode code and a precision: the lowest row from 1 to 5 that applies, or that none does.
+pub fn judged(p: Number, d: Number, code: u32, precision: u32) -> Result<(), Refusal>
+    ensures { (x : Outcome) → unless_refused result x ≡ unless_indivisible p d code precision x }
 {
     // What rows 2 to 5 ask.
     let imprecise = !is_precision(precision);
@@ -31,32 +20,26 @@ pub fn judged(p: Number, d: Number, code: u32, precision: u32) -> Judgement
     let second_unfit = !is_admissible(d);
     let zero_divisor = is_zero(d);
     if LAST_CODE < code {
-        return Judgement::UnknownMode;
+        return Err(Refusal::UnknownMode);
     }
     if imprecise {
-        return Judgement::BadPrecision;
+        return Err(Refusal::BadPrecision);
     }
     if first_unfit {
-        return Judgement::FirstUnfit;
+        return Err(Refusal::FirstUnfit);
     }
     if second_unfit {
-        return Judgement::SecondUnfit;
+        return Err(Refusal::SecondUnfit);
     }
     if zero_divisor {
-        return Judgement::ZeroDivisor;
+        return Err(Refusal::ZeroDivisor);
     }
-    Judgement::Divisible
+    Ok(())
 }
 
+#[tactic(auto, unfolding(crate::specs::Quotient::is_zero))]
 fn is_zero(x: Number) -> bool
     ensures { result ≡ is_zero x }
 {
-    match x {
-        Number::Zero => true,
-        Number::Finite {
-            negative: _,
-            exponent: _,
-            significand: _,
-        } => false,
-    }
+    matches!(x, Number::Zero)
 }

@@ -37,6 +37,13 @@ const LOW_PART: u64 = 0x400;
 
 const LOW_PART_PLACE: u64 = 0x40_0000_0000_0000;
 
+// A word with its top bit set.
+#[derive(Clone, Copy)]
+pub(crate) struct Significand {
+    pub word: u64,
+    ghost in_range: { IsSignificand word },
+}
+
 // A quotient digit, and the remainder after it.
 #[derive(Clone, Copy)]
 pub(crate) struct Digit {
@@ -53,15 +60,14 @@ pub(crate) struct Digits {
 }
 
 // p × 2^81 / d.
-pub(crate) fn digits_of(p: u64, d: u64) -> Digits
-    requires { IsSignificand p × IsSignificand d }
-    ensures { IsQuotient (p * 2 ^ 81) d (wide result.high result.low) result.remainder }
+pub(crate) fn digits_of(p: Significand, d: Significand) -> Digits
+    ensures { IsQuotient (p.word * 2 ^ 81) d.word (wide result.high result.low) result.remainder }
 {
-    let reciprocal = reciprocal_of(d);
+    let divisor = Divisor::new(d);
     let bit = first_bit(p, d);
-    let first = next_digit(bit.remainder, d, reciprocal);
-    let second = next_digit(first.remainder, d, reciprocal);
-    let third = next_digit(second.remainder, d, reciprocal);
+    let first = divisor.next_digit(bit.remainder);
+    let second = divisor.next_digit(first.remainder);
+    let third = divisor.next_digit(second.remainder);
     Digits {
         high: bit.value * FIRST_BIT + first.value / LOW_PART,
         low: first.value % LOW_PART * LOW_PART_PLACE + second.value * DIGIT_UNIT + third.value,
@@ -70,60 +76,74 @@ pub(crate) fn digits_of(p: u64, d: u64) -> Digits
 }
 
 // The bit before the binary point of p / d.
-fn first_bit(p: u64, d: u64) -> Digit
-    requires { IsSignificand p × IsSignificand d }
-    ensures { IsQuotient p d result.value result.remainder × (result.value ≤ 1) }
+fn first_bit(p: Significand, d: Significand) -> Digit
+    ensures { IsQuotient p.word d.word result.value result.remainder × (result.value ≤ 1) }
 {
-    if p < d {
+    if p.word < d.word {
         Digit {
             value: 0,
-            remainder: p,
+            remainder: p.word,
         }
     } else {
         Digit {
             value: 1,
-            remainder: p - d,
+            remainder: p.word - d.word,
         }
     }
 }
 
-// The next 27 bits of a remainder. The upper half of the remainder times the reciprocal gives the digit, or
-// one less; what is left of remainder × 2^27 is held in an upper and a lower half, and where it is not
-// below d, d is taken off once more.
-fn next_digit(remainder: u64, d: u64, reciprocal: u64) -> Digit
-    requires { IsSignificand d × IsReciprocalWord d reciprocal × (remainder < d) }
-    ensures { IsQuotient (remainder * 2 ^ 27) d result.value result.remainder }
-{
-    let d1 = d / HALF;
-    let d0 = d % HALF;
-    let r1 = remainder / HALF;
-    let r0 = remainder % HALF;
-    let digit = r1 * reciprocal / ESTIMATE_UNIT;
-    // remainder × 2^27 − digit × d, with a loan to the lower half so that it is not negative.
-    let low = LOAN + r0 * DIGIT_UNIT - digit * d0;
-    let left1 = r1 * DIGIT_UNIT + low / HALF - (digit * d1 + UPPER_LOAN);
-    let left0 = low % HALF;
-    // The same less d, with 2^32 lent: `over` is above d1 where d can be taken off. No branch depends on
-    // it: the correction is a digit, 0 or 1.
-    let lent = HALF + left0 - d0;
-    let over = left1 + lent / HALF;
-    let correction = (over > d1) as u64;
-    let left = left1 % HALF * HALF + left0;
-    Digit {
-        value: digit + correction,
-        remainder: std::num::wrapping_sub_u64(left, correction * d),
-    }
+// A divisor's significand with its reciprocal.
+#[derive(Clone, Copy)]
+struct Divisor {
+    word: u64,
+    reciprocal: u64,
+    ghost significand: { IsSignificand word },
+    ghost near: { IsReciprocalWord word reciprocal },
 }
 
-// The reciprocal of a divisor: the seed, refined twice. The divisor is rounded up to 32 bits.
-fn reciprocal_of(d: u64) -> u64
-    requires { IsSignificand d }
-    ensures { IsReciprocalWord d result }
-{
-    let dr = (d - 1) / HALF + 1;
-    let seed = entry_for(d) as u64 * SEED_UNIT;
-    let once = refined(dr, seed);
-    refined(dr, once)
+impl Divisor {
+    // The reciprocal is the seed, refined twice. The divisor is rounded up to 32 bits.
+    fn new(d: Significand) -> Divisor
+        ensures { result.word ≡ d.word }
+    {
+        let word = d.word;
+        let dr = (word - 1) / HALF + 1;
+        let seed = entry_for(word) as u64 * SEED_UNIT;
+        let once = refined(dr, seed);
+        Divisor {
+            word,
+            reciprocal: refined(dr, once),
+        }
+    }
+
+    // The next 27 bits of a remainder. The upper half of the remainder times the reciprocal gives the digit,
+    // or one less; what is left of remainder × 2^27 is held in an upper and a lower half, and where it is
+    // not below the divisor d, d is taken off once more.
+    fn next_digit(self, remainder: u64) -> Digit
+        requires { remainder < self.word }
+        ensures { IsQuotient (remainder * 2 ^ 27) self.word result.value result.remainder }
+    {
+        let d = self.word;
+        let d1 = d / HALF;
+        let d0 = d % HALF;
+        let r1 = remainder / HALF;
+        let r0 = remainder % HALF;
+        let digit = r1 * self.reciprocal / ESTIMATE_UNIT;
+        // remainder × 2^27 − digit × d, with a loan to the lower half so that it is not negative.
+        let low = LOAN + r0 * DIGIT_UNIT - digit * d0;
+        let left1 = r1 * DIGIT_UNIT + low / HALF - (digit * d1 + UPPER_LOAN);
+        let left0 = low % HALF;
+        // The same less d, with 2^32 lent: `over` is above d1 where d can be taken off. No branch depends on
+        // it: the correction is a digit, 0 or 1.
+        let lent = HALF + left0 - d0;
+        let over = left1 + lent / HALF;
+        let correction = (over > d1) as u64;
+        let left = left1 % HALF * HALF + left0;
+        Digit {
+            value: digit + correction,
+            remainder: left.wrapping_sub(correction * d),
+        }
+    }
 }
 
 // A Newton step.

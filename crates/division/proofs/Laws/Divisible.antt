@@ -1,6 +1,6 @@
 -- The refusals in the table's order: what the test of row 2 says, and what `unless_indivisible`, rows 1 to 5, is behind each test. Rows 1 to 4
 -- are those of every operation.
-use Rattle.std.proofs.Common.{◌≡◌, ℕ, ◌<◌, ◌≤◌, Bool, true, false, cond, not, ltb, sym, refl, ap, ◌∙◌, ltb-false}
+use Rattle.std.proofs.Common.{◌≡◌, ℕ, ◌<◌, ◌≤◌, Bool, true, false, cond, not, ltb, sym, refl, ◌∙◌, ltb-false}
 use Rattle.numbers.specs.Answer.{Outcome, given, refused, rounded, unless_unknown, unless_unfit}
 use Rattle.numbers.specs.Fraction.{value, quotient}
 use Rattle.numbers.specs.Number.{is_admissible}
@@ -11,8 +11,7 @@ use Rattle.numbers.specs.declared.task.Task.{Task}
 use Rattle.numbers.proofs.Laws.Refusals as rows
 use Rattle.numbers.proofs.Laws.Tests.{never}
 use Rattle.division.specs.Quotient.{is_zero, unless_indivisible, quotient_of}
-use Rattle.division.specs.Judgement.{IsTaken, answered_by, IsTask}
-use Rattle.division.specs.declared.judgement.Judgement.{Judgement}
+use Rattle.division.specs.Judgement.{IsTaken, IsTask}
 
 -- what the test of row 2 says of a task
 pub task_range : (task : Task) (code n : ℕ) → task ≡ task_of code n → is_precision n ≡ true → IsTask task
@@ -51,14 +50,13 @@ module _ (p d : Number) (code n : ℕ) (answer : Outcome) where
 pub taken : {p d : Number} {code n : ℕ} → IsTaken p d code n → (x : Outcome) → x ≡ unless_indivisible p d code n x
 taken {p} {d} {code} {n} is x = divisible p d code n x is.mode (rows.range_precision n is.precise.0 is.precise.1) is.dividend is.divisor is.nonzero
 
+-- and its task has a precision from 1 to 64
+pub taken_task : {p d : Number} {code n : ℕ} → IsTaken p d code n → {task : Task} → task ≡ task_of code n → IsTask task
+taken_task {code = code} {n = n} is {task} named = task_range task code n named (rows.range_precision n is.precise.0 is.precise.1)
+
 pub quotient_taken : {p d : Number} {code n : ℕ} → IsTaken p d code n → quotient_of p d code n ≡ rounded (task_of code n) (quotient (value p) (value d))
 unfolding quotient_of
 quotient_taken {p} {d} {code} {n} is = sym (taken is (rounded (task_of code n) (quotient (value p) (value d))))
-
--- what is judged, at the case that a match has found
-pub judged_as : (p d : Number) (code n : ℕ) (r j : Judgement) → ((x : Outcome) → answered_by r x ≡ unless_indivisible p d code n x) → r ≡ j
-    → (x : Outcome) → answered_by j x ≡ unless_indivisible p d code n x
-judged_as p d code n r j h e x = ap (λ (k : Judgement). answered_by k x) (sym e) ∙ h x
 
 -- where every answer is left as it is, no row applies
 pub divisible_taken : (p d : Number) (code n : ℕ) → ((x : Outcome) → x ≡ unless_indivisible p d code n x) → IsTaken p d code n

@@ -1,10 +1,10 @@
 -- `division::quotient::divided` meets its contract: the quotient lies in the cell of its digits (Laws.Rounds). Zero over anything is zero.
 use Rattle.std.proofs.Common.{◌≡◌, false, sym, ap, ◌∙◌, w32, SFits, rules}
 use mathlib.Core.Bool.{false≢true}
+use Rattle.std.specs.Prelude.{Ok}
 use Rattle.numbers.specs.Accuracy.{marked_answer, marked_by}
 use Rattle.numbers.specs.Fraction.{value, quotient}
 use Rattle.numbers.specs.declared.answer.Accuracy.TheVariants as accuracy
-use Rattle.numbers.specs.declared.answer.Answer.TheVariants.{Given}
 use Rattle.numbers.specs.declared.number.Number.{Number}
 use Rattle.numbers.specs.declared.number.Number.TheVariants.{Zero}
 use Rattle.numbers.specs.declared.task.Task.{Task}
@@ -15,7 +15,7 @@ use Rattle.division.specs.Quotient.{is_zero}
 use Rattle.division.proofs.Laws.Rounds.{both_significands, difference_fits, less_fits, exponent_is, quotient_rounds}
 use Rattle.division.proofs.quotient.divided.Goals as goal
 
-zero_dividend : (task : Task) (p d : Number) → p ≡ Zero → marked_answer (Given Zero accuracy.Exact) ≡ marked_by task (quotient (value p) (value d))
+zero_dividend : (task : Task) (p d : Number) → p ≡ Zero → marked_answer (Ok (record { number = Zero; accuracy = accuracy.Exact })) ≡ marked_by task (quotient (value p) (value d))
 unfolding marked_answer
 zero_dividend task p d is = rw is (sym (zero_mark task (quotient (value Zero) (value d)) (quotient_zero (value Zero) (value d) zero_value)))
 
@@ -30,9 +30,11 @@ returns-in_default c = zero_dividend _ _ _ c.in_default.is
 pub returns-in_default-d : goal.returns-in_default-d
 returns-in_default-d c = absurd (not_zero _ c.in_default-d.is c.requires.2)
 
-pub digits_of-digits-requires : goal.digits_of-digits-requires
-digits_of-digits-requires c =
-    both_significands _ _ _ _ _ _ _ _ c.in-Finite.is c.in-Finite-d.is c.requires.0 c.requires.1
+pub invariant_of-digits_of : goal.invariant_of-digits_of
+invariant_of-digits_of c = record { in_range = (both_significands _ _ _ _ _ _ _ _ c.in-Finite.is c.in-Finite-d.is c.requires.0 c.requires.1).0 }
+
+pub invariant_of-digits_of-2 : goal.invariant_of-digits_of-2
+invariant_of-digits_of-2 c = record { in_range = (both_significands _ _ _ _ _ _ _ _ c.in-Finite.is c.in-Finite-d.is c.requires.0 c.requires.1).1 }
 
 pub overflow_sub-p_exponent : goal.overflow_sub-p_exponent
 overflow_sub-p_exponent c =

@@ -3,14 +3,6 @@ use Rattle.std.proofs.Common.{arith}
 use Rattle.division.proofs.Laws.DigitWords.{digit_bits, joined}
 use Rattle.division.proofs.significands.digits_of.Goals as goal
 
-pub overflow_mul-result-3 : goal.overflow_mul-result-3
-overflow_mul-result-3 c =
-    record { fits = omega (arith, digit_bits c.next_digit-second.ensures c.next_digit-first.ensures.below) }
-
-pub overflow_add-result-2 : goal.overflow_add-result-2
-overflow_add-result-2 c =
-    record { fits = omega (arith, digit_bits c.next_digit-second.ensures c.next_digit-first.ensures.below) }
-
 pub overflow_add-result-3 : goal.overflow_add-result-3
 overflow_add-result-3 c =
     record {
@@ -24,4 +16,5 @@ overflow_add-result-3 c =
 
 pub returns : goal.returns
 returns c =
-    joined _ _ _ _ _ _ _ _ _ _ c.first_bit-bit.ensures.0 c.next_digit-first.ensures c.next_digit-second.ensures c.next_digit-third.ensures
+    rw (← c.new-divisor.ensures)
+    (joined _ _ _ _ _ _ _ _ _ _ (rw (← c.new-divisor.ensures) at c.first_bit-bit.ensures.0) c.next_digit-first.ensures c.next_digit-second.ensures c.next_digit-third.ensures)

@@ -1,9 +1,9 @@
--- `division::significands::reciprocal_of` meets its contract: the seed is near, and each step is nearer (Laws.DigitWords).
+-- `division::significands::Divisor::new` meets its contract: the seed is near, and each step is nearer (Laws.DigitWords).
 use Rattle.std.proofs.Common.{◌≡◌, ℕ, ◌*◌, ◌^◌, ap}
 use Rattle.division.specs.Words.{IsSignificand, refined_word, HasProducts, IsReciprocalWord}
 use Rattle.division.proofs.Laws.Seeds.{entry_for}
 use Rattle.division.proofs.Laws.DigitWords.{rounded_up, seed_near, products, next, reciprocal_word}
-use Rattle.division.proofs.significands.reciprocal_of.Goals as goal
+use Rattle.division.proofs.significands.Divisor.new.Goals as goal
 
 module _ (D T : ℕ) (d : IsSignificand D) (entry : T ≡ entry_for D) where
   first : HasProducts (rounded_up D) (T * 2 ^ 24)
@@ -16,11 +16,13 @@ module _ (D T : ℕ) (d : IsSignificand D) (entry : T ≡ entry_for D) where
   twice x y e f = rw (f, e) (reciprocal_word D d (T * 2 ^ 24) (ap (λ (n : ℕ). n * 2 ^ 24) entry))
 
 pub refined-once-requires : goal.refined-once-requires
-refined-once-requires c = first _ _ c.requires c.entry_for.ensures
+refined-once-requires c = first _ _ c.args.d.in_range c.entry_for.ensures
 
 pub refined-requires : goal.refined-requires
-refined-requires c =
-    search (first _ _ c.requires c.entry_for.ensures, second _ _ c.requires c.entry_for.ensures _ c.refined-once.ensures)
+refined-requires c = second _ _ c.args.d.in_range c.entry_for.ensures _ c.refined-once.ensures
 
-pub returns : goal.returns
-returns c = twice _ _ c.requires c.entry_for.ensures _ _ c.refined-once.ensures c.refined.ensures
+pub invariant_of-result : goal.invariant_of-result
+invariant_of-result c = record {
+  significand = c.args.d.in_range;
+  near = twice _ _ c.args.d.in_range c.entry_for.ensures _ _ c.refined-once.ensures c.refined.ensures;
+}

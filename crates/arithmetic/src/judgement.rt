@@ -1,30 +1,26 @@
 // Rows 2 to 4 of document 01's table, which every operation on two numbers asks.
-ghost use Rattle.arithmetic.specs.Private.{IsJudged};
+ghost use Rattle.std.specs.Prelude.{◌≡◌, true, OnOk};
+ghost use Rattle.numbers.specs.Answer.{Outcome, unless_refused, unless_either_unfit};
+ghost use Rattle.numbers.specs.Number.{is_working};
+ghost use Rattle.numbers.specs.Rounding.{is_precision};
 
 use numbers::number::{Number, is_working};
 use numbers::task::is_precision;
+use refusals::Refusal;
 
-// The lowest row from 2 to 4 that applies, its number in the comment, or that none does.
-#[derive(Clone, Copy)]
-pub(crate) enum Judgement {
-    Fit,
-    BadPrecision, // 2
-    FirstUnfit, // 3
-    SecondUnfit, // 4
-}
-
-// Judges two operands and a precision.
-pub(crate) fn judged(a: Number, b: Number, precision: u32) -> Judgement
-    ensures { IsJudged a b precision result }
+// The lowest row from 2 to 4 that applies to two operands and a precision, or that none does.
+pub(crate) fn judged(a: Number, b: Number, precision: u32) -> Result<(), Refusal>
+    ensures row { (x : Outcome) → unless_refused result x ≡ unless_either_unfit is_working a b precision x }
+    ensures fit { OnOk result ((is_working a ≡ true) × (is_working b ≡ true) × (is_precision precision ≡ true)) }
 {
     if !is_precision(precision) {
-        return Judgement::BadPrecision;
+        return Err(Refusal::BadPrecision);
     }
     if !is_working(a) {
-        return Judgement::FirstUnfit;
+        return Err(Refusal::FirstUnfit);
     }
     if !is_working(b) {
-        return Judgement::SecondUnfit;
+        return Err(Refusal::SecondUnfit);
     }
-    Judgement::Fit
+    Ok(())
 }

@@ -2,6 +2,7 @@
 // the caller's task. What is public stands in `operation`.
 #![tactic(auto)]
 
+mod exact;
 mod judgement;
 mod magnitude;
 mod operand;

@@ -4,18 +4,18 @@
 ghost use Rattle.std.specs.Prelude.{◌≡◌, true};
 ghost use Rattle.numbers.specs.Accuracy.{marked, marked_answer};
 ghost use Rattle.numbers.specs.Fraction.{value, sum, difference, product};
-ghost use Rattle.numbers.specs.Number.{is_working};
-ghost use Rattle.arithmetic.specs.Private.{operand_value, IsOperand, IsExact};
-ghost use Rattle.arithmetic.specs.Operations.{exact_of, operation_of, rounding_of, sum_of, difference_of, product_of};
+ghost use Rattle.arithmetic.specs.Private.{operand_value, IsExact};
+ghost use Rattle.arithmetic.specs.Operations.{exact_of, operation_of, coded_of, rounding_of, sum_of, difference_of, product_of};
 
-use super::judgement::{Judgement, judged};
-use super::magnitude::product;
-use super::operand::{Operand, operand_of};
-use super::rounding::{Exact, rounded};
-use super::sum::sum_of;
-use numbers::answer::Answer;
-use numbers::number::{Number, is_working, negated};
+use super::exact::{Difference, Exactly, Product, Sum};
+use super::judgement::judged;
+use super::operand::Operand;
+use super::rounding::Exact;
+use numbers::answer::Rounded;
+use numbers::number::{Number, is_working};
 use numbers::task::{Task, is_precision, precision_of, task_of};
+use numbers::words::Cell;
+use refusals::Refusal;
 
 // The last mode code.
 const LAST_CODE: u32 = 6;
@@ -24,48 +24,24 @@ const LAST_CODE: u32 = 6;
 const UNRAISED_STEP: u32 = 65_598;
 
 // a + b.
-pub fn add(a: Number, b: Number, code: u32, precision: u32) -> Answer
+pub fn add(a: Number, b: Number, code: u32, precision: u32) -> Result<Rounded, Refusal>
     ensures { marked_answer result ≡ marked (sum (value a) (value b)) (sum_of a b code precision) }
 {
-    if LAST_CODE < code {
-        return Answer::UnknownMode;
-    }
-    match judged(a, b, precision) {
-        Judgement::BadPrecision => Answer::BadPrecision,
-        Judgement::FirstUnfit => Answer::FirstUnfit,
-        Judgement::SecondUnfit => Answer::SecondUnfit,
-        Judgement::Fit => rounded(exact_sum(a, b), task_of(code, precision)),
-    }
+    by_code(Sum, a, b, code, precision)
 }
 
 // a − b.
-pub fn subtract(a: Number, b: Number, code: u32, precision: u32) -> Answer
+pub fn subtract(a: Number, b: Number, code: u32, precision: u32) -> Result<Rounded, Refusal>
     ensures { marked_answer result ≡ marked (difference (value a) (value b)) (difference_of a b code precision) }
 {
-    if LAST_CODE < code {
-        return Answer::UnknownMode;
-    }
-    match judged(a, b, precision) {
-        Judgement::BadPrecision => Answer::BadPrecision,
-        Judgement::FirstUnfit => Answer::FirstUnfit,
-        Judgement::SecondUnfit => Answer::SecondUnfit,
-        Judgement::Fit => rounded(exact_difference(a, b), task_of(code, precision)),
-    }
+    by_code(Difference, a, b, code, precision)
 }
 
 // a × b.
-pub fn multiply(a: Number, b: Number, code: u32, precision: u32) -> Answer
+pub fn multiply(a: Number, b: Number, code: u32, precision: u32) -> Result<Rounded, Refusal>
     ensures { marked_answer result ≡ marked (product (value a) (value b)) (product_of a b code precision) }
 {
-    if LAST_CODE < code {
-        return Answer::UnknownMode;
-    }
-    match judged(a, b, precision) {
-        Judgement::BadPrecision => Answer::BadPrecision,
-        Judgement::FirstUnfit => Answer::FirstUnfit,
-        Judgement::SecondUnfit => Answer::SecondUnfit,
-        Judgement::Fit => rounded(exact_product(a, b), task_of(code, precision)),
-    }
+    by_code(Product, a, b, code, precision)
 }
 
 // An operation on two numbers.
@@ -76,90 +52,73 @@ pub enum Operation {
     Product,
 }
 
+impl Exactly for Operation {
+    ghost of = { exact_of };
+
+    fn exact(self, a: Number, b: Number) -> Exact {
+        match self {
+            Operation::Sum => Sum.exact(a, b),
+            Operation::Difference => Difference.exact(a, b),
+            Operation::Product => Product.exact(a, b),
+        }
+    }
+}
+
 // a + b, a − b or a × b by a task.
-pub fn operate(operation: Operation, a: Number, b: Number, task: Task) -> Answer
+pub fn operate(operation: Operation, a: Number, b: Number, task: Task) -> Result<Rounded, Refusal>
     ensures { marked_answer result ≡ marked (exact_of operation (value a) (value b)) (operation_of (exact_of operation) a b task) }
 {
-    match judged(a, b, precision_of(task)) {
-        Judgement::BadPrecision => Answer::BadPrecision,
-        Judgement::FirstUnfit => Answer::FirstUnfit,
-        Judgement::SecondUnfit => Answer::SecondUnfit,
-        Judgement::Fit => rounded(exact_of(operation, a, b), task),
-    }
+    by_task(operation, a, b, task)
 }
 
 // x by itself by a task.
-pub fn round(x: Number, task: Task) -> Answer
+pub fn round(x: Number, task: Task) -> Result<Rounded, Refusal>
     ensures { marked_answer result ≡ marked (value x) (rounding_of x task) }
 {
     if !is_precision(precision_of(task)) {
-        return Answer::BadPrecision;
+        return Err(Refusal::BadPrecision);
     }
-    if is_working(x) {
-        rounded(exact_operand(operand_of(x)), task)
-    } else {
-        Answer::FirstUnfit
+    if !is_working(x) {
+        return Err(Refusal::FirstUnfit);
     }
+    exact_operand(Operand::of(x)).rounded(task)
 }
 
-// The exact operation on two working numbers.
-fn exact_of(operation: Operation, a: Number, b: Number) -> Exact
-    requires { (is_working a ≡ true) × (is_working b ≡ true) }
-    ensures { IsExact result (exact_of operation (value a) (value b)) }
+// An operation by a mode code and a precision.
+fn by_code<E: Exactly>(
+    operation: E,
+    a: Number,
+    b: Number,
+    code: u32,
+    precision: u32,
+) -> Result<Rounded, Refusal>
+    ensures { marked_answer result ≡ marked (E.of operation (value a) (value b)) (coded_of (E.of operation) a b code precision) }
 {
-    match operation {
-        Operation::Sum => exact_sum(a, b),
-        Operation::Difference => exact_difference(a, b),
-        Operation::Product => exact_product(a, b),
+    if LAST_CODE < code {
+        return Err(Refusal::UnknownMode);
     }
+    by_task(operation, a, b, task_of(code, precision))
 }
 
-fn exact_sum(a: Number, b: Number) -> Exact
-    requires { (is_working a ≡ true) × (is_working b ≡ true) }
-    ensures { IsExact result (sum (value a) (value b)) }
+// An operation by a task.
+fn by_task<E: Exactly>(operation: E, a: Number, b: Number, task: Task) -> Result<Rounded, Refusal>
+    ensures { marked_answer result ≡ marked (E.of operation (value a) (value b)) (operation_of (E.of operation) a b task) }
 {
-    sum_of(operand_of(a), operand_of(b))
-}
-
-fn exact_difference(a: Number, b: Number) -> Exact
-    requires { (is_working a ≡ true) × (is_working b ≡ true) }
-    ensures { IsExact result (difference (value a) (value b)) }
-{
-    sum_of(operand_of(a), operand_of(negated(b)))
-}
-
-fn exact_product(a: Number, b: Number) -> Exact
-    requires { (is_working a ≡ true) × (is_working b ≡ true) }
-    ensures { IsExact result (product (value a) (value b)) }
-{
-    product_of(operand_of(a), operand_of(b))
-}
-
-// a × b: the significands' product is exact in two words.
-fn product_of(a: Operand, b: Operand) -> Exact
-    requires { IsOperand a × IsOperand b }
-    ensures { IsExact result (product (operand_value a) (operand_value b)) }
-{
-    let magnitude = product(a.significand, b.significand);
-    Exact {
-        negative: a.negative != b.negative,
-        exponent: a.exponent + b.exponent,
-        high: magnitude.high,
-        low: magnitude.low,
-        rest: false,
-    }
+    judged(a, b, precision_of(task))?;
+    operation.exact(a, b).rounded(task)
 }
 
 // a.
 fn exact_operand(a: Operand) -> Exact
-    requires { IsOperand a }
     ensures { IsExact result (operand_value a) }
 {
     Exact {
         negative: a.negative,
         exponent: a.exponent + UNRAISED_STEP,
-        high: 0,
-        low: a.significand,
-        rest: false,
+        cell: Cell {
+            high: 0,
+            low: a.significand,
+            rest: false,
+        },
     }
 }

@@ -1,7 +1,13 @@
 -- Two aligned operands: the shifted smaller one leaves room in two words, a rest means that they stand far apart, and the sum or the difference is
 -- rounded and marked as its cell says.
-use Rattle.std.proofs.Common.{◌≡◌, ℕ, zero, suc, ◌+◌, ◌-◌, ◌*◌, ◌/◌, ◌%◌, ◌^◌, ◌<◌, ◌≤◌, Bool, true, false, not, ltb, sym, refl, ap, ◌∙◌, le_trans, le_of_lt, mul-le-mul_right, mul_assoc, lt_of_mul-lt-mul_right, mul-le-mul_left, lt_of_not-le, div-le_self, le_of_mul-le-mul_right, arith, lit≤, pow_pos, pow_mono}
+use Rattle.std.proofs.Common.{Some, Less, Equal, Greater, ◌≡◌, ℕ, zero, suc, ◌+◌, ◌-◌, ◌*◌, ◌/◌, ◌%◌, ◌^◌, ◌<◌, ◌≤◌, Bool, true, false, not, ltb, sym, refl, ap, ◌∙◌, le_trans, le_of_lt, mul-le-mul_right, mul_assoc, lt_of_mul-lt-mul_right, mul-le-mul_left, lt_of_not-le, div-le_self, le_of_mul-le-mul_right, arith, lit≤, pow_pos, pow_mono}
 use native.Mathlib.Decide.{dec_le}
+use native.Mathlib.Nat.{le_of_eq}
+use lib.Dec.{eqb}
+use borrow.Author.Tests.{ltb-true, ltb-false, eqb-true, eqb-false}
+use Rattle.std.specs.Prelude.{cond}
+use Rattle.std.specs.Ordering.{is_some_and, is_lt, nat_cmp, partial_lt, partial_ordering_then}
+use Rattle.numbers.proofs.Laws.Tests.{never}
 use Rattle.numbers.specs.Biased.{bias}
 use Rattle.numbers.specs.Rounding.{precision_of}
 use Rattle.numbers.specs.Fraction.{signed, sum, scaled}
@@ -14,7 +20,7 @@ use Rattle.numbers.proofs.Laws.Pairs.{fraction}
 use Rattle.numbers.proofs.Laws.Fractions.{same_sum, other_sum, sum_fraction}
 use Rattle.numbers.proofs.Laws.Marked.{same_mark}
 use Rattle.numbers.proofs.Laws.Powers.{power_sum}
-use Rattle.arithmetic.specs.Private.{last_bit, operand_value, IsOperand, IsAligned, exact_value, IsExact}
+use Rattle.arithmetic.specs.Private.{last_bit, operand_value}
 use Rattle.arithmetic.specs.declared.operand.Operand.{Operand}
 use Rattle.arithmetic.proofs.Laws.Sum.{cell_rounds, cell_added, cell_subtracted, raised_power, shifted_cell}
 
@@ -64,6 +70,13 @@ flag true m y l e = omega arith
 
 -- ---- of two operands
 
+-- the larger operand stands first, and significands are words
+pub record IsAligned (large small : Operand) : Type 0 where
+  pub lower : small.exponent ≤ large.exponent
+  pub larger : small.significand ≤ large.significand * 2 ^ (large.exponent - small.exponent)
+  pub large_word : large.significand < 2 ^ 64
+  pub small_word : small.significand < 2 ^ 64
+
 module _ (large small : Operand) (h : IsAligned large small) (Y : ℕ) (rest : Bool) (shifted : Y ≡ small.significand * 2 ^ 63 / 2 ^ (large.exponent - small.exponent))
     (dropped : rest ≡ ltb 0 (small.significand * 2 ^ 63 % 2 ^ (large.exponent - small.exponent))) where
   cell : InCell rest (small.significand * 2 ^ 63) Y (2 ^ (large.exponent - small.exponent))
@@ -83,7 +96,7 @@ module _ (large small : Operand) (h : IsAligned large small) (Y : ℕ) (rest : B
       let c : InCell true (small.significand * 2 ^ 63) Y (2 ^ (large.exponent - small.exponent)) = rw e at cell in
       le_trans (mul-le-mul_left 2 (pow_mono n1))
       (wide_enough large.significand small.significand Y (2 ^ 63) (2 ^ 64) (2 ^ (large.exponent - small.exponent)) F refl (lit≤ tt) h.small_word (pow_mono (far small.significand Y (large.exponent - small.exponent) c))
-      h.normal h.larger c l)
+      (λ (z : 0 < large.significand). large.normal (omega arith)) h.larger c l)
 
   grid_cell : InCell rest (small.significand * 2 ^ (small.exponent + 65598)) Y (2 ^ (large.exponent + bias))
   grid_cell = shifted_cell rest small.significand small.exponent large.exponent Y h.lower cell
@@ -132,13 +145,9 @@ module _ (large small : Operand) (h : IsAligned large small) (T S Y : ℕ) (rest
   pub added_fits : T + Y < 2 ^ 128
   added_fits = rw top (sum_fits large small h Y rest shifted_is dropped_is)
 
-  pub added_answer : small.negative ≡ large.negative → (high low : ℕ) → wide high low ≡ T + Y
-      → IsExact (record { negative = large.negative; exponent = large.exponent + bias; high = high; low = low; rest = rest }) (sum (operand_value large) (operand_value small))
-  unfolding exact_value
-  added_answer sign high low m = record {
-    biased = omega (arith, h.biased);
-    rounds = λ (task : Task) (n0 : 1 ≤ precision_of task) (n1 : precision_of task ≤ 64). rw (m, top) (added_rounds large small h Y rest shifted_is dropped_is task n0 n1 sign);
-  }
+  pub added_answer : small.negative ≡ large.negative → (high low : ℕ) → wide high low ≡ T + Y → (task : Task) → 1 ≤ precision_of task → precision_of task ≤ 64
+      → marked_by task (scaled large.negative (end_of (wide high low) rest) (large.exponent + bias) last_bit) ≡ marked_by task (sum (operand_value large) (operand_value small))
+  added_answer sign high low m task n0 n1 = rw (m, top) (added_rounds large small h Y rest shifted_is dropped_is task n0 n1 sign)
 
   -- the difference, less Y and then less the borrow b
   borrow_room : bit_of rest + Y ≤ T
@@ -151,40 +160,55 @@ module _ (large small : Operand) (h : IsAligned large small) (T S Y : ℕ) (rest
   borrowed_fits less b e k = let r = borrow_room in omega arith
 
   pub subtracted_answer : small.negative ≡ not large.negative → (less b high low : ℕ) → less + Y ≡ T → b ≡ bit_of rest → wide high low + b ≡ less
-      → IsExact (record { negative = large.negative; exponent = large.exponent + bias; high = high; low = low; rest = rest }) (sum (operand_value large) (operand_value small))
-  unfolding exact_value
-  subtracted_answer sign less b high low l k m = record {
-    biased = omega (arith, h.biased);
-    rounds = λ (task : Task) (n0 : 1 ≤ precision_of task) (n1 : precision_of task ≤ 64).
-        subtracted_rounds large small h Y rest shifted_is dropped_is task n0 n1 sign (wide high low)
-        (ap (λ (n : ℕ). wide high low + n + Y) (sym k) ∙ ap (λ (n : ℕ). n + Y) m ∙ l ∙ top);
-  }
+      → (task : Task) → 1 ≤ precision_of task → precision_of task ≤ 64
+      → marked_by task (scaled large.negative (end_of (wide high low) rest) (large.exponent + bias) last_bit) ≡ marked_by task (sum (operand_value large) (operand_value small))
+  subtracted_answer sign less b high low l k m task n0 n1 =
+      subtracted_rounds large small h Y rest shifted_is dropped_is task n0 n1 sign (wide high low)
+      (ap (λ (n : ℕ). wide high low + n + Y) (sym k) ∙ ap (λ (n : ℕ). n + Y) m ∙ l ∙ top)
 
 -- ---- which operand is the larger
 
-module _ (large small : Operand) (l : IsOperand large) (s : IsOperand small) where
-  pub by_exponent : small.exponent < large.exponent → IsAligned large small
-  by_exponent h =
-      let top : 2 ^ 63 ≤ large.significand = l.normal (omega arith) in
-      let twice : 2 * large.significand ≤ large.significand * 2 ^ (large.exponent - small.exponent) = omega (arith, mul-le-mul_left large.significand (pow_mono {i = 1} (one_below h))) in
-      record {
-        biased = l.biased;
-        lower = le_of_lt h;
-        large_word = l.word;
-        small_word = s.word;
-        larger = let w = s.word in omega arith;
-        normal = λ (z : 0 < large.significand). top;
-      }
-    where
-      one_below : {a b : ℕ} → a < b → 1 ≤ b - a
-      one_below k = omega arith
+-- at a larger exponent every significand of 64 bits is less, as the top bit is set there
+pub larger_by_exponent : (large small : Operand) → small.significand < 2 ^ 64 → small.exponent < large.exponent → small.significand ≤ large.significand * 2 ^ (large.exponent - small.exponent)
+larger_by_exponent large small word h =
+    let top : 2 ^ 63 ≤ large.significand = large.normal (omega arith) in
+    let twice : 2 * large.significand ≤ large.significand * 2 ^ (large.exponent - small.exponent) = omega (arith, mul-le-mul_left large.significand (pow_mono {i = 1} (one_below h))) in
+    omega arith
+  where
+    one_below : {a b : ℕ} → a < b → 1 ≤ b - a
+    one_below k = omega arith
 
-  pub by_significand : small.exponent ≤ large.exponent → small.significand ≤ large.significand → IsAligned large small
-  by_significand h k = record {
-    biased = l.biased;
-    lower = h;
-    large_word = l.word;
-    small_word = s.word;
-    larger = omega (arith, mul-le-mul_left large.significand (pow_pos (large.exponent - small.exponent)));
-    normal = λ (z : 0 < large.significand). l.normal (omega arith);
-  }
+pub larger_by_significand : (a b d : ℕ) → b ≤ a → b ≤ a * 2 ^ d
+larger_by_significand a b d h = omega (arith, mul-le-mul_left a (pow_pos d))
+
+-- ---- the order of pairs of exponent and significand
+
+abbrev before : Operand → Operand → Bool
+before a b = partial_lt {X = ℕ × ℕ} (λ x y. partial_ordering_then (Some (nat_cmp x.0 y.0)) (Some (nat_cmp x.1 y.1))) (a.exponent, a.significand) (b.exponent, b.significand)
+
+abbrev pub IsAbove : Operand → Operand → Type 0
+IsAbove large small = (small.exponent ≤ large.exponent) × (small.significand ≤ large.significand * 2 ^ (large.exponent - small.exponent))
+
+pub above_before : (a b : Operand) → a.significand < 2 ^ 64 → before a b ≡ true → IsAbove b a
+above_before a b word = go (ltb a.exponent b.exponent) (eqb a.exponent b.exponent) (ltb a.significand b.significand) (eqb a.significand b.significand) refl refl refl
+  where
+    go : (t u v w : Bool) → ltb a.exponent b.exponent ≡ t → eqb a.exponent b.exponent ≡ u → ltb a.significand b.significand ≡ v
+        → is_some_and is_lt (partial_ordering_then (Some (cond t Less (cond u Equal Greater))) (Some (cond v Less (cond w Equal Greater)))) ≡ true → IsAbove b a
+    go true u v w et eu ev h = let l = ltb-true a.exponent b.exponent et in (le_of_lt l, larger_by_exponent b a word l)
+    go false true true w et eu ev h = (le_of_eq (eqb-true a.exponent b.exponent eu), larger_by_significand b.significand a.significand (b.exponent - a.exponent) (le_of_lt (ltb-true a.significand b.significand ev)))
+    go false true false true et eu ev h = never cc
+    go false true false false et eu ev h = never cc
+    go false false v w et eu ev h = never cc
+
+pub above_else : (a b : Operand) → b.significand < 2 ^ 64 → before a b ≡ false → IsAbove a b
+above_else a b word = go (ltb a.exponent b.exponent) (eqb a.exponent b.exponent) (ltb a.significand b.significand) (eqb a.significand b.significand) refl refl refl
+  where
+    go : (t u v w : Bool) → ltb a.exponent b.exponent ≡ t → eqb a.exponent b.exponent ≡ u → ltb a.significand b.significand ≡ v
+        → is_some_and is_lt (partial_ordering_then (Some (cond t Less (cond u Equal Greater))) (Some (cond v Less (cond w Equal Greater)))) ≡ false → IsAbove a b
+    go true u v w et eu ev h = never cc
+    go false true true w et eu ev h = never cc
+    go false true false w et eu ev h =
+        (le_of_eq (sym (eqb-true a.exponent b.exponent eu)), larger_by_significand a.significand b.significand (a.exponent - b.exponent) (ltb-false a.significand b.significand ev))
+    go false false v w et eu ev h =
+        let l : b.exponent < a.exponent = let k = ltb-false a.exponent b.exponent et in let n = eqb-false a.exponent b.exponent eu in omega arith in
+        (le_of_lt l, larger_by_exponent a b word l)

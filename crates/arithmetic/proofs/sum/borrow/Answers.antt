@@ -1,19 +1,14 @@
--- `arithmetic::sum::borrow` meets its contract, by the flag.
-use Rattle.std.proofs.Common.{◌≡◌, Bool, true, false}
+-- `arithmetic::sum::borrow` meets its contract: the low word is the flag.
+use Rattle.std.proofs.Common.{◌≡◌, Bool, true, false, refl}
+use mir.Val.{bool_byte}
 use Rattle.numbers.specs.Grid.{bit_of}
 use Rattle.numbers.specs.Cell.{wide}
 use Rattle.arithmetic.proofs.sum.borrow.Goals as goal
 
-set : (rest : Bool) → rest ≡ true → wide 0 1 ≡ bit_of rest
+flag : (rest : Bool) → wide 0 (bool_byte rest) ≡ bit_of rest
 unfolding wide
-set rest e = rw e
+flag true = refl
+flag false = refl
 
-clear : (rest : Bool) → rest ≡ false → wide 0 0 ≡ bit_of rest
-unfolding wide
-clear rest e = rw e
-
-pub returns-then-rest : goal.returns-then-rest
-returns-then-rest c = set c.args.rest c.if-rest.true
-
-pub returns-else-rest : goal.returns-else-rest
-returns-else-rest c = clear c.args.rest c.if-rest.false
+pub returns : goal.returns
+returns c = rw c.from.ensures (flag c.args.rest)

@@ -1,4 +1,4 @@
--- `arithmetic::rounding::rounded` meets its contract: 2^(x − 131,196) is 2^x / 2^131,196.
+-- `arithmetic::rounding::Exact::rounded` meets its contract: 2^(x − 131,196) is 2^x / 2^131,196.
 use Rattle.std.proofs.Common.{◌≡◌, ℕ, ◌≤◌, Bool, ℤ, pos, ◌-ℤ◌, sym, ap, ◌∙◌, arith, to_z-of_z, w32, SFits, to_z, of_z}
 use lib.Ieee.{minus}
 use mir.Facts.{to_z_pos}
@@ -11,10 +11,10 @@ use Rattle.numbers.proofs.Laws.Minus.{pos_minus}
 use Rattle.numbers.proofs.Laws.Refusals.{range_precision}
 use Rattle.numbers.proofs.Laws.EveryValue.{scaled_binary}
 use Rattle.numbers.proofs.Laws.SignedWords.{minus_fits}
-use Rattle.arithmetic.specs.Private.{last_bit, highest_exact, exact_value}
-use Rattle.arithmetic.proofs.rounding.rounded.Goals as goal
+use Rattle.arithmetic.specs.Private.{last_bit, exact_value}
+use Rattle.arithmetic.proofs.rounding.Exact.rounded.Goals as goal
 
-module _ (x : ℕ) (h : x ≤ highest_exact) where
+module _ (x : ℕ) (h : x ≤ 262142) where
   difference_is : to_z w32 x -ℤ pos 131196 ≡ minus x 131196
   difference_is = ap (λ (z : ℤ). z -ℤ pos 131196) (to_z_pos w32 {n = x} (omega arith)) ∙ pos_minus x 131196
 
@@ -31,9 +31,9 @@ unfolding cell_rounding
 answers task negative F x rest e n0 n1 is = rw (range_precision (precision_of task) n0 n1, is) (sym (scaled_binary task negative (end_of F rest) x last_bit n0))
 
 pub overflow_sub-exponent : goal.overflow_sub-exponent
-overflow_sub-exponent c = difference_fits _ c.requires.0
+overflow_sub-exponent c = difference_fits _ c.args.self.biased
 
 pub returns : goal.returns
 unfolding exact_value
 returns c =
-    c.round_cell.ensures.0 ∙ answers _ _ _ _ _ _ c.requires.1 c.requires.2 (exponent_is _ c.requires.0)
+    c.round_cell.ensures.0 ∙ answers _ _ _ _ _ _ c.requires.0 c.requires.1 (exponent_is _ c.args.self.biased)

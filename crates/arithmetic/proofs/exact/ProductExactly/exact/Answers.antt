@@ -1,4 +1,4 @@
--- `arithmetic::operation::exact_product` meets its contract: the operands have the numbers' values.
+-- The exact product of two numbers: the operands have the numbers' values.
 use Rattle.numbers.specs.Fraction.{Equal, value, product}
 use Rattle.numbers.specs.declared.number.Number.{Number}
 use Rattle.numbers.proofs.Laws.Scaled.{value_fraction}
@@ -8,7 +8,7 @@ use Rattle.arithmetic.specs.declared.operand.Operand.{Operand}
 use Rattle.arithmetic.specs.declared.rounding.Exact.{Exact}
 use Rattle.arithmetic.proofs.Laws.Entries.{exact_equal}
 use Rattle.arithmetic.proofs.Laws.Operands.{operand_fraction}
-use Rattle.arithmetic.proofs.operation.exact_product.Goals as goal
+use Rattle.arithmetic.proofs.exact.ProductExactly.exact.Goals as goal
 
 same : (r : Exact) (a b : Number) (x y : Operand) → Equal (value a) (operand_value x) → Equal (value b) (operand_value y) → IsExact r (product (operand_value x) (operand_value y)) → IsExact r (product (value a) (value b))
 same r a b x y a-is b-is =
@@ -16,4 +16,4 @@ same r a b x y a-is b-is =
     (product_fraction (value a) (value b) (value_fraction a) (value_fraction b)) (product_equal (value a) (value b) (operand_value x) (operand_value y) a-is b-is)
 
 pub returns : goal.returns
-returns c = same _ _ _ _ _ c.operand_of.ensures.0 c.operand_of-2.ensures.0 c.product_of.ensures
+returns c = same _ _ _ _ _ c.of.ensures c.of-2.ensures c.product_of.ensures

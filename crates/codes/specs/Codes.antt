@@ -1,11 +1,12 @@
 -- Document 01, "Codes": the two formats, and what reading and writing a code answer. One definition of each serves both formats.
 -- A format's constants are the struct `Format` of src/code.rt, and a code taken apart is the struct `Code`. `minus a b` (Float.Ieee of std) is a − b as a
 -- whole number.
-use Rattle.std.specs.Prelude.{Bool, false, not, ◌&&◌, cond, List, ℕ, ◌+◌, ◌-◌, ◌*◌, ◌/◌, ◌%◌, ◌^◌, leb, ltb, eqb, ℤ, pos, neg_ℤ, nat_abs, ◌+ℤ◌, ◌-ℤ◌, length}
+use Rattle.std.specs.Prelude.{Bool, false, not, ◌&&◌, cond, List, ℕ, ◌+◌, ◌-◌, ◌*◌, ◌/◌, ◌%◌, ◌^◌, leb, ltb, eqb, ℤ, pos, neg_ℤ, nat_abs, ◌+ℤ◌, ◌-ℤ◌, length, ⊤}
 use Rattle.std.specs.Bool.{beq}
 use Rattle.std.proofs.Math.Option.{Option, none, some}
 use Rattle.std.specs.Float.Ieee.{minus}
 use Rattle.std.specs.Int.Signed.{le_z}
+use Rattle.std.specs.declared.result.Result.{Result}
 use Rattle.little_endian.specs.Bytes.{little_endian, bytes_of}
 use Rattle.numbers.specs.Answer.{Outcome, given, refused}
 use Rattle.numbers.specs.Fraction.{value, is_equal}
@@ -15,14 +16,10 @@ use Rattle.numbers.specs.declared.number.Number.{Number}
 use Rattle.numbers.specs.declared.number.Number.TheVariants.{Zero, Finite}
 use Rattle.numbers.specs.declared.task.Mode.TheVariants.{Trunc}
 use Rattle.codes.specs.declared.code.Code.{Code}
-use Rattle.codes.specs.declared.code.Decoding.{Decoding}
-use Rattle.codes.specs.declared.code.Decoding.TheVariants as decode
 use Rattle.codes.specs.declared.code.Format.{Format}
-use Rattle.codes.specs.declared.code.Reading.{Reading}
-use Rattle.codes.specs.declared.code.Reading.TheVariants as read
-use Rattle.codes.specs.declared.code.Writing.{Writing}
-use Rattle.codes.specs.declared.code.Writing.TheVariants as write
 use Rattle.codes.specs.declared.double_extended.DoubleExtended.{DoubleExtended}
+use Rattle.refusals.specs.Row.{refusal_row}
+use Rattle.refusals.specs.declared.Refusal.{Refusal}
 
 -- "Each format carries its own precision, bias and exponent ends." `stored` says how many bits of the significand a code has; `lowest` and `highest`
 -- are the exponents of field 1 and of the last field below all ones.
@@ -139,24 +136,6 @@ writing_of f x old =
     (cond (not (eqb (length old) f.length)) (unwritten 9 old)
     (packed f old (equal_code f x)))
 
--- "Where an answer is an enum, a definition gives this paper's number and values for each case of the enum"
-unfoldable pub decoding : Decoding → Outcome
-decoding (decode.Given x) = given x
-decoding decode.AllOnes = refused 10
-decoding decode.Noncanonical = refused 11
-
-unfoldable pub reading : Reading → Outcome
-reading (read.Given x) = given x
-reading read.WrongLength = refused 9
-reading read.AllOnes = refused 10
-reading read.Noncanonical = refused 11
-
-unfoldable pub refusal_of : Writing → Option ℕ
-refusal_of write.Written = none
-refusal_of write.Unfit = some 3
-refusal_of write.WrongLength = some 9
-refusal_of write.NoEqualCode = some 12
-
 -- the answer with the bytes at exit
-unfoldable pub writing : Writing → List ℕ → Lent
-writing answer bytes = record { refusal = refusal_of answer; bytes = bytes }
+unfoldable pub writing : Result ⊤ Refusal → List ℕ → Lent
+writing answer bytes = record { refusal = refusal_row answer; bytes = bytes }

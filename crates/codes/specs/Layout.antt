@@ -1,19 +1,20 @@
 -- The terms that the laws of codes and private contracts are stated in; no promise of a public function cites them.
-use Rattle.std.specs.Prelude.{◌≡◌, Bool, true, List, ℕ, ◌+◌, ◌*◌, ◌^◌, ◌≤◌, ◌<◌, ℤ, pos, neg_ℤ, length}
+use Rattle.std.specs.Prelude.{◌≡◌, Bool, true, List, ℕ, ◌+◌, ◌*◌, ◌^◌, ◌≤◌, ◌<◌, ℤ, pos, neg_ℤ, length, Ok, Err}
 use Rattle.std.proofs.Math.Option.{Option, none, some}
 use Rattle.std.specs.Float.Ieee.{up, down, minus}
+use Rattle.std.specs.declared.result.Result.{Result}
 use Rattle.little_endian.specs.Bytes.{IsBytes}
 use Rattle.numbers.specs.Answer.{given}
 use Rattle.numbers.specs.Fraction.{Fraction, Equal, signed, value}
 use Rattle.numbers.specs.Number.{is_between}
 use Rattle.numbers.specs.declared.number.Number.{Number}
 use Rattle.numbers.specs.declared.number.Number.TheVariants.{Zero, Finite}
-use Rattle.codes.specs.Codes.{exponent_bits, reading_of, Lent, packed, writing_of, writing}
+use Rattle.codes.specs.Codes.{exponent_bits, reading_of, Lent, unwritten, packed, writing_of}
 use Rattle.codes.specs.declared.code.Code.{Code}
 use Rattle.codes.specs.declared.code.Format.{Format}
-use Rattle.codes.specs.declared.code.Writing.TheVariants as write
-use Rattle.codes.specs.declared.pack.Packing.{Packing}
-use Rattle.codes.specs.declared.pack.Packing.TheVariants as pack
+use Rattle.refusals.specs.Row.{row_number}
+use Rattle.refusals.specs.declared.Refusal.{Refusal}
+use Rattle.refusals.specs.declared.Refusal.TheVariants.{NoEqualCode}
 
 -- What the constants of a format have to do with each other. A code stores all bits of a significand or all but the top one; the bias is one
 -- less than half the number of fields; the ends are the exponents of field 1 and of the last field below all ones.
@@ -47,18 +48,18 @@ unfoldable pub is_normalizable : Number → Bool
 is_normalizable Zero = true
 is_normalizable (Finite negative e S) = is_between (neg_ℤ (pos 65472)) (pos 65536) e
 
--- the packing of the code that equals a number, or of none
-unfoldable pub packing_of : Option Code → Packing
-packing_of none = pack.Refused write.NoEqualCode
-packing_of (some c) = pack.Code c
+-- the code that equals a number, or the refusal that there is none
+unfoldable pub packing_of : Option Code → Result Code Refusal
+packing_of none = Err NoEqualCode
+packing_of (some c) = Ok c
 
 -- what a call leaves that writes the code of a packing, or answers its refusal
-unfoldable pub laid : Format → Packing → List ℕ → Lent
-laid f (pack.Code c) old = packed f old (some c)
-laid f (pack.Refused answer) old = writing answer old
+unfoldable pub laid : Format → Result Code Refusal → List ℕ → Lent
+laid f (Ok c) old = packed f old (some c)
+laid f (Err refusal) old = unwritten (row_number refusal) old
 
 -- r is what is to be written for x into n bytes, and a code has room there
-pub record IsPacking (f : Format) (x : Number) (n : ℕ) (r : Packing) : Type 0 where
+pub record IsPacking (f : Format) (x : Number) (n : ℕ) (r : Result Code Refusal) : Type 0 where
   pub leaves : (old : List ℕ) → length old ≡ n → laid f r old ≡ writing_of f x old
-  pub long : (c : Code) → r ≡ pack.Code c → n ≡ f.length
-  pub room : (c : Code) → r ≡ pack.Code c → IsCode f c
+  pub long : (c : Code) → r ≡ Ok c → n ≡ f.length
+  pub room : (c : Code) → r ≡ Ok c → IsCode f c

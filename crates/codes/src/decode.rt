@@ -1,55 +1,58 @@
 // The number that a code stands for, in either format.
 ghost use Rattle.std.specs.Prelude.{◌≡◌, true};
-ghost use Rattle.codes.specs.Codes.{counted, decoded, normalized, is_canonical, judged_code, decoding, reading};
-ghost use Rattle.codes.specs.Layout.{IsFormat, IsCode, is_normalizable};
+ghost use Rattle.numbers.specs.Answer.{answer_outcome};
+ghost use Rattle.codes.specs.Codes.{split, counted, decoded, normalized, is_canonical, judged_code, number_of};
+ghost use Rattle.codes.specs.Layout.{is_normalizable};
 
-use super::code::{Code, Decoding, Format, Reading};
+use super::code::Code;
+use super::layout::Layout;
 use numbers::number::Number;
+use refusals::Refusal;
 
 // The fit number that a code stands for. A code that is no number ends the reading with its refusal.
-pub(crate) fn fit_number(code: Code, format: Format) -> Decoding
-    requires { IsFormat format × IsCode format code }
-    ensures { decoding result ≡ judged_code format code (normalized (decoded format code)) }
+pub(crate) fn fit_number<F: Layout>(code: F) -> Result<Number, Refusal>
+    ensures { answer_outcome result ≡ number_of F.FORMAT (F.bits code) }
 {
-    let found = decode(code, format);
-    let Decoding::Given(x) = found else {
+    let found = decode(code);
+    let Ok(x) = found else {
         return found;
     };
-    Decoding::Given(normalize(x))
+    Ok(normalize(x))
 }
 
 // The number as the code has it: below normal the top bit of its significand is clear.
-fn decode(code: Code, format: Format) -> Decoding
-    requires { IsFormat format × IsCode format code }
-    ensures { decoding result ≡ judged_code format code (decoded format code) }
+fn decode<F: Layout>(code: F) -> Result<Number, Refusal>
+    ensures { answer_outcome result ≡ judged_code F.FORMAT (split F.FORMAT (F.bits code)) (decoded F.FORMAT (split F.FORMAT (F.bits code))) }
 {
-    let field = code.field;
+    let format = F::FORMAT;
+    let parts = code.parts();
+    let field = parts.field;
     let all_ones = 2 * format.bias + 1;
-    let canonical = is_canonical(code, format);
+    let canonical = is_canonical::<F>(parts);
     if field == all_ones {
-        return Decoding::AllOnes;
+        return Err(Refusal::AllOnes);
     }
     if !canonical {
-        return Decoding::Noncanonical;
+        return Err(Refusal::Noncanonical);
     }
-    Decoding::Given(Number::Finite {
-        negative: code.negative,
+    Ok(Number::Finite {
+        negative: parts.negative,
         exponent: counted(field) as i32 - format.bias as i32,
-        significand: code.significand << (64 - format.precision),
+        significand: parts.significand << (64 - format.precision),
     })
 }
 
 // Is the top bit of the significand set at every field but 0, and is it no negative zero?
-fn is_canonical(code: Code, format: Format) -> bool
-    requires { IsFormat format }
-    ensures { result ≡ is_canonical format code }
+fn is_canonical<F: Layout>(code: Code) -> bool
+    ensures { result ≡ is_canonical F.FORMAT code }
 {
-    let has_top = 1u64 << (format.precision - 1) <= code.significand;
+    let has_top = 1u64 << (F::FORMAT.precision - 1) <= code.significand;
     let is_normal = code.field > 0;
+    let has_bits = code.significand > 0;
     if has_top != is_normal {
         return false;
     }
-    if code.significand > 0 {
+    if has_bits {
         return true;
     }
     !code.negative
@@ -83,16 +86,5 @@ fn normalize(x: Number) -> Number
         negative,
         exponent: exponent - zeros as i32,
         significand: significand << zeros,
-    }
-}
-
-// What a code stands for, as what reading its bytes answers.
-pub(crate) fn reading_of(found: Decoding) -> Reading
-    ensures { reading result ≡ decoding found }
-{
-    match found {
-        Decoding::Given(x) => Reading::Given(x),
-        Decoding::AllOnes => Reading::AllOnes,
-        Decoding::Noncanonical => Reading::Noncanonical,
     }
 }

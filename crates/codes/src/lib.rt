@@ -1,9 +1,11 @@
 // The double-extended and binary64 codes of numbers, read and written. What is public stands in
-// `double_extended`, `binary64` and `code`.
+// `double_extended`, `binary64` and `coded`.
 #![tactic(auto)]
 
 pub mod binary64;
-pub mod code;
+mod code;
+pub mod coded;
 mod decode;
 pub mod double_extended;
+mod layout;
 mod pack;

@@ -1,70 +1,66 @@
 // What is written for a number, in either format: the code that equals it, or a refusal.
 ghost use Rattle.std.specs.Prelude.{◌≡◌, true};
 ghost use Rattle.numbers.specs.Number.{is_working_exponent, is_working};
-ghost use Rattle.codes.specs.Codes.{sign_bit, field_of, below_normal, equal_code};
-ghost use Rattle.codes.specs.Layout.{IsFormat, IsPacking, packing_of};
+ghost use Rattle.codes.specs.Codes.{field_of, below_normal, equal_code};
+ghost use Rattle.codes.specs.Layout.{IsPacking, packing_of};
 
-use super::code::{Code, Format, Writing};
+use super::code::Code;
+use super::layout::Layout;
 use numbers::number::{Number, is_working};
 use numbers::words::cut;
-
-// The code to write, or the refusal.
-#[derive(Clone, Copy)]
-pub(crate) enum Packing {
-    Code(Code),
-    Refused(Writing),
-}
+use refusals::Refusal;
 
 // What is written for x into so many bytes: the refusals in the order of document 01's table, and then
 // the code.
-pub(crate) fn pack(x: Number, length: usize, format: Format) -> Packing
-    requires { IsFormat format }
-    ensures { IsPacking format x length result }
+pub(crate) fn pack<F: Layout>(x: Number, length: usize) -> Result<Code, Refusal>
+    ensures { IsPacking F.FORMAT x length result }
 {
     let fit = is_working(x);
-    let room = format.length;
+    let room = F::FORMAT.length;
     if !fit {
-        return Packing::Refused(Writing::Unfit);
+        return Err(Refusal::FirstUnfit);
     }
     if length != room {
-        return Packing::Refused(Writing::WrongLength);
+        return Err(Refusal::WrongLength);
     }
-    equal_code(x, format)
+    equal_code::<F>(x)
 }
 
 // The code that equals a working number, if there is one: the exponent is not above the highest, and
 // no bit of the significand falls off.
-fn equal_code(x: Number, format: Format) -> Packing
-    requires { IsFormat format × (is_working x ≡ true) }
-    ensures { result ≡ packing_of (equal_code format x) }
+fn equal_code<F: Layout>(x: Number) -> Result<Code, Refusal>
+    requires { is_working x ≡ true }
+    ensures { result ≡ packing_of (equal_code F.FORMAT x) }
 {
+    let format = F::FORMAT;
     let Number::Finite {
         negative,
         exponent,
         significand,
     } = x
     else {
-        return Packing::Code(Code {
+        return Ok(Code {
             negative: false,
             field: 0,
             significand: 0,
         });
     };
-    if format.highest < exponent {
-        return Packing::Refused(Writing::NoEqualCode);
+    let above = format.highest < exponent;
+    if above {
+        return Err(Refusal::NoEqualCode);
     }
-    let place = place_of(exponent, format);
+    let place = place_of::<F>(exponent);
     let part = cut(significand, place.below + (64 - format.precision));
     let kept = part.value;
     let exact = !part.rest;
     if exact {
-        return Packing::Code(Code {
+        return Ok(Code {
             negative,
             field: place.field,
             significand: kept,
         });
     }
-    Packing::Refused(Writing::NoEqualCode)
+    Err(Refusal::NoEqualCode)
 }
 
 // The field of an exponent, and how far the exponent lies below the lowest one.
@@ -74,10 +70,11 @@ struct Place {
     below: u32,
 }
 
-fn place_of(exponent: i32, format: Format) -> Place
-    requires { IsFormat format × (is_working_exponent exponent ≡ true) }
-    ensures { (result.field ≡ field_of format exponent) × (result.below ≡ below_normal format exponent) }
+fn place_of<F: Layout>(exponent: i32) -> Place
+    requires { is_working_exponent exponent ≡ true }
+    ensures { (result.field ≡ field_of F.FORMAT exponent) × (result.below ≡ below_normal F.FORMAT exponent) }
 {
+    let format = F::FORMAT;
     if format.lowest <= exponent {
         Place {
             field: (exponent + format.bias as i32) as u32,
@@ -89,11 +86,4 @@ fn place_of(exponent: i32, format: Format) -> Place
             below: (format.lowest - exponent) as u32,
         }
     }
-}
-
-// The sign bit.
-pub(crate) fn sign_bit(negative: bool) -> u64
-    ensures { result ≡ sign_bit negative }
-{
-    if negative { 1 } else { 0 }
 }

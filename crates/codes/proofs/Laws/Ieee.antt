@@ -29,9 +29,10 @@ use Rattle.numbers.proofs.Laws.Minus.{minus_same}
 use Rattle.numbers.proofs.Laws.Tests.{leb_same, eqb_same}
 use Rattle.codes.specs.Codes.{binary64, exponent_bits, all_ones, leading_one, split, counted, decoded, normalized, is_canonical, judged_code, number_of, reading_of}
 use Rattle.codes.specs.Layout.{ieee_fraction}
+use Rattle.codes.specs.Formats.{binary64_format}
 use Rattle.codes.specs.declared.code.Code.{Code}
 use Rattle.codes.proofs.Laws.Codes.{given_parts, read_value}
-use Rattle.codes.proofs.Laws.Parts.{binary64_format, canonical_parts, parts_canonical}
+use Rattle.codes.proofs.Laws.Parts.{canonical_parts, parts_canonical}
 
 -- ---- both have the same fields
 

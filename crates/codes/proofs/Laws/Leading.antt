@@ -9,6 +9,7 @@ use borrow.Author.Tests.{leb-true, leb-false, ltb-true, ltb-false}
 use lib.Arith.{digits_lt}
 use lib.Dec.{leb, ltb}
 use lib.Pow.{pow_mono}
+use Rattle.std.specs.Int.{from_bool}
 use Rattle.numbers.proofs.Laws.Tests.{at_most_one}
 use Rattle.codes.specs.Codes.{exponent_bits, leading_one, sign_bit}
 use Rattle.codes.specs.Layout.{IsFormat, IsCode}
@@ -48,6 +49,11 @@ module _ (f : Format) (formed : IsFormat f) where
           above : (u : Bool) → leb P S ≡ u → S < 2 * P → S % P + cond u P 0 ≡ S
           above true top high = let low = leb-true P S top in rw (mod-eq-sub-mod low, mod-eq_of_lt (let k : S - P < P = omega arith in k)) (omega arith)
           above false top high = rw (add-zero (S % P)) (mod-eq_of_lt (leb-false P S top))
+
+-- the sign bit, as the machine makes it
+pub sign_bit_read : (negative : Bool) → from_bool negative ≡ sign_bit negative
+sign_bit_read true = refl
+sign_bit_read false = refl
 
 -- the sign and the field of a code, which stand above its significand, have one bit more than the field
 pub upper_below : (f : Format) (c : Code) (sign : ℕ) → IsCode f c → sign ≡ sign_bit c.negative → sign * 2 ^ exponent_bits f + c.field < 2 * 2 ^ exponent_bits f

@@ -1,10 +1,9 @@
--- The parts of a code: both formats are formats, taking apart and putting together undo each other, and what the judgement of a code says of its parts.
+-- The parts of a code: taking apart and putting together undo each other, and what the judgement of a code says of its parts.
 use mathlib.Core.Path.{◌≡◌, refl, sym, ap, ◌∙◌}
 use mathlib.Core.Bool.{Bool, true, false, not, ◌&&◌, beq, cond, and-eq-true_iff}
 use Prim.Native.Nat.{ℕ, zero, suc, ◌+◌, ◌-◌, ◌*◌, ◌/◌, ◌%◌, ◌^◌, ◌<◌}
 use native.Mathlib.Nat.{div-add-mod', div-lt_iff_lt-mul, mod-lt}
 use native.Mathlib.Omega.{arith}
-use borrow.Author.Rules.{rules}
 use lib.Arith.{digits_lt, digits_div, digits_mod}
 use lib.Dec.{leb, ltb, eqb}
 use lib.Pow.{pow-add, pow_pos}
@@ -12,20 +11,11 @@ use Rattle.little_endian.proofs.Laws.Bytes.{byte_power}
 use Rattle.numbers.specs.Answer.{given, refused}
 use Rattle.numbers.specs.declared.number.Number.{Number}
 use Rattle.numbers.proofs.Laws.Tests.{never}
-use Rattle.codes.specs.Codes.{double_extended, binary64, exponent_bits, all_ones, split, join, is_canonical, judged_code}
+use Rattle.codes.specs.Codes.{exponent_bits, all_ones, split, join, is_canonical, judged_code}
 use Rattle.codes.specs.Layout.{IsFormat, IsCode}
 use Rattle.codes.specs.declared.code.Code.{Code}
 use Rattle.codes.specs.declared.code.Format.{Format}
 use Rattle.codes.proofs.Laws.Leading.{leading_room, leading_back, upper_below}
-
--- the constants of both formats are as those of a format are
-pub double_extended_format : IsFormat double_extended
-unfolding double_extended exponent_bits
-double_extended_format = search rules
-
-pub binary64_format : IsFormat binary64
-unfolding binary64 exponent_bits
-binary64_format = search rules
 
 -- a code has 1 bit of sign above the exponent's bits and the stored ones
 all_bits : (f : Format) → IsFormat f → 256 ^ f.length ≡ 2 * 2 ^ exponent_bits f * 2 ^ f.stored
@@ -54,6 +44,10 @@ split_code f w formed = record {
   field_fits = mod-lt (w / 2 ^ f.stored) (pow_pos (exponent_bits f));
   significand_fits = (leading_room f formed (w / 2 ^ f.stored % 2 ^ exponent_bits f) (w % 2 ^ f.stored) (mod-lt w (pow_pos f.stored))).0;
 }
+
+-- so have the parts c of a code, as a program has them with its format
+pub held_code : (f held : Format) (w : ℕ) (c : Code) → IsFormat f → held ≡ f → c ≡ split f w → IsFormat held × IsCode held c
+held_code f held w c formed e is = rw (is, e) (formed, split_code f w formed)
 
 pub join_below : (f : Format) (c : Code) → IsFormat f → IsCode f c → join f c < 256 ^ f.length
 unfolding join

@@ -11,14 +11,16 @@ use mir.Facts.{to_z-of_z}
 use mir.Syntax.{w32}
 use mir.Val.{SFits, to_z, of_z}
 use borrow.Author.Tests.{eq-eqb, ne_eqb}
+use Rattle.refusals.specs.Row.{row_number}
+use Rattle.numbers.specs.Answer.{answer_outcome}
 use Rattle.numbers.specs.Biased.{bias}
 use Rattle.numbers.specs.declared.number.Number.TheVariants.{Finite}
 use Rattle.numbers.proofs.Laws.SignedWords.{minus_fits, difference_read}
-use Rattle.codes.specs.Codes.{decoding, all_ones, judged_code, counted, decoded}
+use Rattle.codes.specs.Codes.{all_ones, judged_code, counted, decoded}
 use Rattle.codes.specs.Layout.{IsFormat, IsCode}
 use Rattle.codes.specs.declared.code.Code.{Code}
 use Rattle.codes.specs.declared.code.Format.{Format}
-use Rattle.codes.proofs.Laws.Parts.{all_ones_are}
+use Rattle.codes.proofs.Laws.Parts.{held_code, all_ones_are}
 use Rattle.codes.proofs.Laws.Places.{counted_is}
 use Rattle.codes.proofs.decode.decode.Goals as goal
 
@@ -43,27 +45,36 @@ module _ (f : Format) (c : Code) (needed : IsFormat f × IsCode f c) (k : ℕ) (
       rw (to_z-of_z exponent_fits, exponent_read, is, kept)
 
 pub returns-then-field-all_ones : goal.returns-then-field-all_ones
-unfolding decoding judged_code
-returns-then-field-all_ones c = rw (eq-eqb _ _ (c.if-field-all_ones.true ∙ sym (all_ones_are _ c.requires.0)))
+unfolding answer_outcome row_number judged_code
+returns-then-field-all_ones g c =
+    let held = held_code _ _ _ _ g.met.F.Layout.formed c.FORMAT-format.ensures c.parts-parts.ensures in
+    rw (← c.parts-parts.ensures, ← c.FORMAT-format.ensures) (rw (eq-eqb _ _ (c.if-field-all_ones.true ∙ sym (all_ones_are _ held.0))))
 
 pub returns-then-not-canonical : goal.returns-then-not-canonical
-unfolding decoding judged_code
-returns-then-not-canonical c =
-    rw (no_ones _ c.args.code c.requires.0 (assumption), sym c.is_canonical-canonical.ensures ∙ c.if-not-canonical.true)
+unfolding answer_outcome row_number judged_code
+returns-then-not-canonical g c =
+    let held = held_code _ _ _ _ g.met.F.Layout.formed c.FORMAT-format.ensures c.parts-parts.ensures in
+    let canonical = rw (← c.FORMAT-format.ensures) at c.is_canonical-canonical.ensures in
+    rw (← c.parts-parts.ensures, ← c.FORMAT-format.ensures)
+    (rw (no_ones _ c.parts-parts.result held.0 (assumption), sym canonical ∙ c.if-not-canonical.true))
 
 pub overflow_cast-result : goal.overflow_cast-result
-unfolding decoding judged_code
-overflow_cast-result c = record { sfits = omega (arith, counted_small _ _ c.requires _ c.counted.ensures) }
+overflow_cast-result g c =
+    let held = held_code _ _ _ _ g.met.F.Layout.formed c.FORMAT-format.ensures c.parts-parts.ensures in
+    record { sfits = omega (arith, counted_small _ _ held _ c.counted.ensures) }
 
 pub overflow_sub-result : goal.overflow_sub-result
-unfolding decoding judged_code
-overflow_sub-result c = exponent_fits _ _ c.requires _ c.counted.ensures
+overflow_sub-result g c =
+    exponent_fits _ _ (held_code _ _ _ _ g.met.F.Layout.formed c.FORMAT-format.ensures c.parts-parts.ensures) _ c.counted.ensures
 
 pub returns : goal.returns
-unfolding decoding judged_code
-returns c =
-    rw (
-      no_ones _ c.args.code c.requires.0 c.if-field-all_ones.false,
-      sym c.is_canonical-canonical.ensures ∙ c.if-not-canonical.false,
-      number_is _ _ c.requires _ c.counted.ensures,
-    )
+unfolding answer_outcome row_number judged_code
+returns g c =
+    let held = held_code _ _ _ _ g.met.F.Layout.formed c.FORMAT-format.ensures c.parts-parts.ensures in
+    let canonical = rw (← c.FORMAT-format.ensures) at c.is_canonical-canonical.ensures in
+    rw (← c.parts-parts.ensures, ← c.FORMAT-format.ensures)
+    (rw (
+      no_ones _ c.parts-parts.result held.0 c.if-field-all_ones.false,
+      sym canonical ∙ c.if-not-canonical.false,
+      number_is _ _ held _ c.counted.ensures,
+    ))

@@ -25,16 +25,16 @@ tested f c false formed h = rw (← top_is f formed) (not-false _ h)
 
 pub returns-then-has_top-is_normal : goal.returns-then-has_top-is_normal
 unfolding is_canonical
-returns-then-has_top-is_normal c = rw (tested _ c.args.code _ c.requires c.if-has_top-is_normal.true)
+returns-then-has_top-is_normal g c = rw (← c.FORMAT.ensures, tested _ c.args.code _ (rw (← c.FORMAT.ensures) at g.met.F.Layout.formed) c.if-has_top-is_normal.true)
 
-pub returns-then-code-gt0 : goal.returns-then-code-gt0
+pub returns-then-has_bits : goal.returns-then-has_bits
 unfolding is_canonical
-returns-then-code-gt0 c =
-    let some = ne_eqb c.args.code.significand 0 (λ (z : c.args.code.significand ≡ 0). omega (arith, c.if-code-gt0.true)) in
-    rw (tested _ c.args.code _ c.requires c.if-has_top-is_normal.false, some, and-false c.args.code.negative)
+returns-then-has_bits g c =
+    let some = ne_eqb c.args.code.significand 0 (λ (z : c.args.code.significand ≡ 0). omega (arith, c.if-has_bits.true)) in
+    rw (← c.FORMAT.ensures, tested _ c.args.code _ (rw (← c.FORMAT.ensures) at g.met.F.Layout.formed) c.if-has_top-is_normal.false, some, and-false c.args.code.negative)
 
 pub returns : goal.returns
 unfolding is_canonical
-returns c =
-    let none : c.args.code.significand ≡ 0 = omega (arith, c.if-code-gt0.false) in
-    rw (tested _ c.args.code _ c.requires c.if-has_top-is_normal.false, eq-eqb _ 0 none, and-true c.args.code.negative)
+returns g c =
+    let none : c.args.code.significand ≡ 0 = omega (arith, c.if-has_bits.false) in
+    rw (← c.FORMAT.ensures, tested _ c.args.code _ (rw (← c.FORMAT.ensures) at g.met.F.Layout.formed) c.if-has_top-is_normal.false, eq-eqb _ 0 none, and-true c.args.code.negative)

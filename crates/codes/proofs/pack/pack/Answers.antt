@@ -4,15 +4,16 @@ use Rattle.codes.proofs.Laws.Entries.{pack_unfit, pack_wrong_length, pack_code}
 use Rattle.codes.proofs.pack.pack.Goals as goal
 
 pub returns-then-not-fit : goal.returns-then-not-fit
-returns-then-not-fit c = pack_unfit _ _ _ (sym c.is_working-fit.ensures ∙ c.if-not-fit.true)
+returns-then-not-fit g c = pack_unfit _ _ _ (sym c.is_working-fit.ensures ∙ c.if-not-fit.true)
 
 pub returns-then-length-room : goal.returns-then-length-room
-returns-then-length-room c = pack_wrong_length _ _ _ (sym c.is_working-fit.ensures ∙ (assumption)) c.if-length-room.true
+returns-then-length-room g c =
+    rw (← c.FORMAT-room.ensures) (pack_wrong_length _ _ _ (sym c.is_working-fit.ensures ∙ (assumption)) c.if-length-room.true)
 
 pub equal_code-requires : goal.equal_code-requires
-equal_code-requires c = (c.requires, sym c.is_working-fit.ensures ∙ c.if-not-fit.false)
+equal_code-requires g c = sym c.is_working-fit.ensures ∙ c.if-not-fit.false
 
 pub returns : goal.returns
-returns c =
+returns g c =
     let fit = sym c.is_working-fit.ensures ∙ c.if-not-fit.false in
-    pack_code _ _ _ fit c.requires c.if-length-room.false _ c.equal_code.ensures
+    pack_code _ _ _ fit g.met.F.Layout.formed (rw c.FORMAT-room.ensures at c.if-length-room.false) _ c.equal_code.ensures

@@ -25,21 +25,18 @@ use Rattle.codes.proofs.pack.place_of.Goals as goal
 cast : {z : ℤ} {k : ℕ} → IsWhole w32 z k → T (non_neg (to_z w32 (of_z w32 z))) × Fits w32 (nat_abs (to_z w32 (of_z w32 z)))
 cast whole = whole_cast whole w32 (omega (arith, whole.small))
 
-module _ (f : Format) (e : ℤ) (needed : IsFormat f × (is_working_exponent e ≡ true)) (fits : SFits w32 e) where
-  formed : IsFormat f
-  formed = needed.0
-
+module _ (f : Format) (e : ℤ) (formed : IsFormat f) (needed : is_working_exponent e ≡ true) (fits : SFits w32 e) where
   -- the exponent, biased
   b : ℕ
-  b = (biased_working e needed.1).0
+  b = (biased_working e needed).0
 
   most : b ≤ highest_biased
   unfolding b
-  most = (biased_working e needed.1).2
+  most = (biased_working e needed).2
 
   is : e ≡ minus b bias
   unfolding b
-  is = (biased_working e needed.1).3
+  is = (biased_working e needed).3
 
   lowest_fits : SFits w32 f.lowest
   lowest_fits = rw formed.lowest_is (minus_fits 1 f.bias (omega arith) (omega (arith, formed.small_bias)))
@@ -83,19 +80,19 @@ module _ (f : Format) (e : ℤ) (needed : IsFormat f × (is_working_exponent e �
     below = (rw (is, field_is f b formed) (omega (arith, misses)), ap nat_abs (whole_read gap))
 
 pub overflow_add-result : goal.overflow_add-result
-overflow_add-result c = whole_fits (field _ _ c.requires c.ranges.exponent c.if-format-exponent.true)
+overflow_add-result g c = whole_fits (field _ _ (rw (← c.FORMAT-format.ensures) at g.met.F.Layout.formed) c.requires c.ranges.exponent c.if-format-exponent.true)
 
 pub overflow_cast-result-then-format-exponent : goal.overflow_cast-result-then-format-exponent
-overflow_cast-result-then-format-exponent c = cast (field _ _ c.requires c.ranges.exponent c.if-format-exponent.true)
+overflow_cast-result-then-format-exponent g c = cast (field _ _ (rw (← c.FORMAT-format.ensures) at g.met.F.Layout.formed) c.requires c.ranges.exponent c.if-format-exponent.true)
 
 pub overflow_sub-result : goal.overflow_sub-result
-overflow_sub-result c = whole_fits (gap _ _ c.requires c.ranges.exponent c.if-format-exponent.false)
+overflow_sub-result g c = whole_fits (gap _ _ (rw (← c.FORMAT-format.ensures) at g.met.F.Layout.formed) c.requires c.ranges.exponent c.if-format-exponent.false)
 
 pub overflow_cast-result-else-format-exponent : goal.overflow_cast-result-else-format-exponent
-overflow_cast-result-else-format-exponent c = cast (gap _ _ c.requires c.ranges.exponent c.if-format-exponent.false)
+overflow_cast-result-else-format-exponent g c = cast (gap _ _ (rw (← c.FORMAT-format.ensures) at g.met.F.Layout.formed) c.requires c.ranges.exponent c.if-format-exponent.false)
 
 pub returns-then-format-exponent : goal.returns-then-format-exponent
-returns-then-format-exponent c = normal _ _ c.requires c.ranges.exponent c.if-format-exponent.true
+returns-then-format-exponent g c = rw (← c.FORMAT-format.ensures) (normal _ _ (rw (← c.FORMAT-format.ensures) at g.met.F.Layout.formed) c.requires c.ranges.exponent c.if-format-exponent.true)
 
 pub returns-else-format-exponent : goal.returns-else-format-exponent
-returns-else-format-exponent c = below _ _ c.requires c.ranges.exponent c.if-format-exponent.false
+returns-else-format-exponent g c = rw (← c.FORMAT-format.ensures) (below _ _ (rw (← c.FORMAT-format.ensures) at g.met.F.Layout.formed) c.requires c.ranges.exponent c.if-format-exponent.false)

@@ -1,8 +1,0 @@
--- `codes::binary64::Binary64::format` meets its contract: the constants are those of the definition.
-use mathlib.Core.Path.{refl}
-use Rattle.codes.specs.Codes.{binary64}
-use Rattle.codes.proofs.binary64.Binary64.format.Goals as goal
-
-pub returns : goal.returns
-unfolding binary64
-returns c = refl

@@ -7,48 +7,40 @@ ghost use Rattle.depot.specs.Room.{mode_of};
 use super::side::{PRECISION, Side};
 use super::state::Depot;
 use super::whole::number_of;
-use division::answer::Quotient;
 use division::quotient::divide;
 use numbers::number::Number;
+use refusals::Refusal;
 
-// What asking for figures answers: the low and the high one, or the row of document 01's table that
-// refuses, the number in each comment.
+// The low and the high figure.
 #[derive(Clone, Copy)]
-pub enum Bracket {
-    Given { low: Number, high: Number },
-    Unfit, // 3
-    NoneMoved, // 17
+pub struct Bracket {
+    pub low: Number,
+    pub high: Number,
 }
 
 impl Depot {
     // The figures of the vans taken so far.
-    pub fn figures(self) -> Bracket
+    pub fn figures(self) -> Result<Bracket, Refusal>
         ensures { bracket_figures result ≡ figures_of self }
     {
         if !self.is_fit() {
-            return Bracket::Unfit;
+            return Err(Refusal::FirstUnfit);
         }
-        let moved = self.moved;
-        if moved == 0 {
-            return Bracket::NoneMoved;
+        if self.moved == 0 {
+            return Err(Refusal::NoneMoved);
         }
-        let low = self.low;
-        let high = self.high;
-        Bracket::Given {
-            low: mean(Side::Low, low, moved),
-            high: mean(Side::High, high, moved),
-        }
+        Ok(Bracket {
+            low: mean(Side::Low, self.low, self.moved),
+            high: mean(Side::High, self.high, self.moved),
+        })
     }
 }
 
-// A fit sum divided by the moved count, on the sum's side. The division is never refused here; the sum
-// stands where a refusal would.
+// A fit sum divided by the moved count, on the sum's side. The division is never refused here.
 fn mean(side: Side, total: Number, moved: u32) -> Number
     requires { (is_fit_sum total ≡ true) × (0 < moved) }
     ensures { result ≡ mean_of (mode_of side) total moved }
 {
-    let Quotient::Given(x, _) = divide(total, number_of(moved), side.code(), PRECISION) else {
-        return total;
-    };
-    x
+    let mean = divide(total, number_of(moved), side.code(), PRECISION).unwrap();
+    mean.number
 }

@@ -1,6 +1,6 @@
 // The state of a depot.
-ghost use Rattle.std.specs.Prelude.{◌≡◌};
-ghost use Rattle.depot.specs.Depot.{fresh, is_fit_sum, are_blocks_fit, is_fit_depot};
+ghost use Rattle.std.specs.Prelude.{◌≡◌, ◌&&◌, ◌+◌, leb};
+ghost use Rattle.depot.specs.Depot.{fresh, most_vans, is_negative_number, is_fit_sum, are_blocks_fit, is_fit_depot};
 
 use numbers::number::{Number, is_fit};
 
@@ -50,35 +50,30 @@ impl Depot {
 
     // Is the state fit: at most 4,096 vans moved or parked, no more of them over, fewer than 205 blocks
     // taken unless it is closed, and both sums fit?
+    #[tactic(auto, unfolding(crate::specs::Depot::is_fit_depot))]
     pub fn is_fit(self) -> bool
         ensures { result ≡ is_fit_depot self }
     {
-        let vans = self.moved as u64 + self.parked as u64;
-        if vans > MOST_VANS {
-            return false;
-        }
-        if self.over as u64 > vans {
-            return false;
-        }
-        if !self.are_blocks_fit() {
-            return false;
-        }
-        let low = self.low;
-        if !is_fit_sum(low) {
-            return false;
-        }
-        let high = self.high;
-        is_fit_sum(high)
+        self.are_counts_fit()
+            && self.are_blocks_fit()
+            && is_fit_sum(self.low)
+            && is_fit_sum(self.high)
+    }
+
+    // Did at most 4,096 vans move or park, and are no more of them over?
+    fn are_counts_fit(self) -> bool
+        ensures { result ≡ (leb (self.moved + self.parked) most_vans && leb self.over (self.moved + self.parked)) }
+    {
+        let vans = u64::from(self.moved) + u64::from(self.parked);
+        vans <= MOST_VANS && u64::from(self.over) <= vans
     }
 
     // Are fewer blocks taken than a depot can take, unless it is closed?
+    #[tactic(auto, unfolding(crate::specs::Depot::are_blocks_fit))]
     fn are_blocks_fit(self) -> bool
         ensures { result ≡ are_blocks_fit self }
     {
-        if self.blocks < MOST_BLOCKS {
-            return true;
-        }
-        self.closed
+        self.blocks < MOST_BLOCKS || self.closed
     }
 }
 
@@ -86,16 +81,16 @@ impl Depot {
 fn is_fit_sum(x: Number) -> bool
     ensures { result ≡ is_fit_sum x }
 {
-    if !is_fit(x, LOWEST_SUM, HIGHEST_SUM) {
-        return false;
+    is_fit(x, LOWEST_SUM, HIGHEST_SUM) && !is_negative(x)
+}
+
+// Is x below zero?
+#[tactic(auto, unfolding(crate::specs::Depot::is_negative_number))]
+fn is_negative(x: Number) -> bool
+    ensures { result ≡ is_negative_number x }
+{
+    match x {
+        Number::Zero => false,
+        Number::Finite { negative, .. } => negative,
     }
-    let Number::Finite {
-        negative,
-        exponent: _,
-        significand: _,
-    } = x
-    else {
-        return true;
-    };
-    !negative
 }

@@ -2,14 +2,13 @@
 use mathlib.Core.Path.{◌≡◌, refl}
 use mathlib.Core.List.{[], ◌∷◌, ◌++◌, map}
 use Prim.Native.Nat.{ℕ}
-use lib.ListN.{take, drop}
 use Rattle.numbers.specs.Fraction.{value, difference, product}
 use Rattle.numbers.specs.Answer.{Outcome, given, rounded}
 use Rattle.numbers.specs.Rounding.{by_mode, claim}
 use Rattle.numbers.specs.declared.number.Number.{Number}
 use Rattle.numbers.specs.declared.task.Mode.TheVariants.{Trunc, Away}
 use Rattle.numbers.specs.declared.task.Task.{Task}
-use Rattle.steps.specs.Run.{digit_of, less_of, steps_of, digit_steps, sum_steps, later_steps}
+use Rattle.steps.specs.Run.{digit_of, less_of, steps_of, digit_steps, sum_steps}
 use Rattle.steps.specs.Steps.{seed, refined, Line, lines, line_of, line_of_both, result_at, term_of, result_of, worked_out, after_step}
 
 module _ (p d : Number) (task : Task) where
@@ -91,13 +90,3 @@ module _ (p d : Number) (task : Task) where
   pub own_results : map (λ (line : Line). result_of (term_of p d (worked_out p d (lines task) [])) line.expression line.task) (lines task) ≡ worked_out p d (lines task) []
   unfolding worked_out lines result_at term_of result_of
   own_results = refl
-
-  -- steps 10 to 15
-  pub early_lines : take 6 (drop 9 (worked_out p d (lines task) [])) ≡ steps_of (at 9) (at 11) (at 7) (at 8)
-  unfolding after_step worked_out lines result_at term_of result_of steps_of less_of
-  early_lines = refl
-
-  -- steps 16 to 32
-  pub later_lines : take 17 (drop 15 (worked_out p d (lines task) [])) ≡ later_steps task (at 11) (at 15) (at 6) (at 7) (at 8)
-  unfolding after_step worked_out lines result_at term_of result_of steps_of digit_of less_of sum_steps later_steps
-  later_lines = refl

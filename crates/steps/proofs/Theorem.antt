@@ -7,31 +7,33 @@ use borrow.Author.Tests.{ltb-false, le-leb}
 use lib.Dec.{ltb, lit≤}
 use lib.Ieee.{minus}
 use lib.IntN.{ℤ}
+use Rattle.std.specs.Prelude.{Ok, Err}
+use Rattle.std.specs.declared.result.Result.{Result}
+use Rattle.refusals.specs.Row.{row_number}
+use Rattle.refusals.specs.declared.Refusal.{Refusal}
 use Rattle.numbers.specs.Biased.{bias}
-use Rattle.numbers.specs.Accuracy.{accuracy_of, marked}
-use Rattle.numbers.specs.Answer.{Outcome, given, refused, rounded, unless_unknown, unless_unfit}
+use Rattle.numbers.specs.Accuracy.{accuracy_of, marked, marked_answer}
+use Rattle.numbers.specs.Answer.{Outcome, given, refused, rounded, answer_outcome, unless_unknown, unless_unfit}
 use Rattle.numbers.specs.Fraction.{value, quotient}
 use Rattle.numbers.specs.Number.{is_working, is_admissible}
 use Rattle.numbers.specs.Rounding.{round, by_mode, task_of, is_precision}
+use Rattle.numbers.specs.declared.answer.Rounded.{Rounded}
 use Rattle.numbers.specs.declared.number.Number.{Number}
 use Rattle.numbers.specs.declared.number.Number.TheVariants.{Zero, Finite}
 use Rattle.numbers.specs.declared.task.Mode.{Mode}
 use Rattle.numbers.proofs.Laws.Fits.{given_round, working_checked}
+use Rattle.numbers.proofs.Laws.Marked.{given_answer}
 use Rattle.numbers.proofs.Laws.Refusals.{precision_range, mode_of_is}
 use Rattle.numbers.proofs.Laws.Scaled.{equal_scaled}
 use Rattle.numbers.proofs.Laws.Tests.{never}
-use Rattle.division.specs.Quotient.{is_zero, marked_quotient, unless_indivisible, quotient_of}
+use Rattle.division.specs.Quotient.{is_zero, unless_indivisible, quotient_of}
 use Rattle.division.specs.Judgement.{IsTaken}
-use Rattle.division.specs.declared.answer.Quotient.{Quotient}
 use Rattle.division.proofs.Laws.Admissible.{admissible_parts}
 use Rattle.division.proofs.Laws.Divisible.{taken, quotient_taken}
-use Rattle.division.proofs.Laws.Given.{given_quotient}
 use Rattle.division.proofs.Laws.Range.{InRange, lowest_admissible}
 use Rattle.steps.specs.Steps.{after_step}
 use Rattle.steps.specs.Theorem.{IsDivided, IsAnswered, IsAnswer, Division}
-use Rattle.steps.specs.Wanted.{step_outcome, is_step, step_of}
-use Rattle.steps.specs.declared.answer.Step.{Step}
-use Rattle.steps.specs.declared.answer.Step.TheVariants as step
+use Rattle.steps.specs.Wanted.{is_step, step_of}
 use Rattle.steps.proofs.Laws.Divided.{last_step_is, no_step_fails, step_given}
 use Rattle.steps.proofs.Laws.Run.{step_range}
 use Rattle.steps.proofs.Laws.Combined.{as_given}
@@ -136,17 +138,10 @@ module _ (p d : Number) (code n : ℕ) where
 refused_given : (k : ℕ) (x : Number) → refused k ≡ given x → ⊥
 refused_given k x e = never cc
 
-given_step : (r : Step) (x : Number) → step_outcome r ≡ given x → r ≡ step.Given x
-unfolding step_outcome
-given_step (step.Given y) x e = let same : y ≡ x = cc in ap step.Given same
-given_step step.UnknownMode x e = absurd (refused_given 1 x e)
-given_step step.BadPrecision x e = absurd (refused_given 2 x e)
-given_step step.FirstUnfit x e = absurd (refused_given 3 x e)
-given_step step.SecondUnfit x e = absurd (refused_given 4 x e)
-given_step step.ZeroDivisor x e = absurd (refused_given 5 x e)
-given_step step.NoSuchStep x e = absurd (refused_given 6 x e)
-given_step step.ExponentOutside x e = absurd (refused_given 7 x e)
-given_step step.TooManyBits x e = absurd (refused_given 8 x e)
+given_step : (r : Result Number Refusal) (x : Number) → answer_outcome r ≡ given x → r ≡ Ok x
+unfolding answer_outcome
+given_step (Ok y) x e = let same : y ≡ x = cc in ap Ok same
+given_step (Err refusal) x e = absurd (refused_given (row_number refusal) x e)
 
 -- where no row applies, the step entry gives the value of the table and the quotient entry the exact quotient rounded once
 module _ (p d : Number) (code n : ℕ) (is : IsTaken p d code n) where
@@ -163,14 +158,14 @@ module _ (p d : Number) (code n : ℕ) (is : IsTaken p d code n) where
     step_given = λ (k : ℕ) (k0 : 1 ≤ k) (k1 : k ≤ 32).
         let x = table_given k k0 k1 in
         let entry = step_taken k k0 k1 ∙ x.1 in
-        (x.0, x.1, entry, λ (r : Step) (e : step_outcome r ≡ step_of p d code n k). given_step r x.0 (e ∙ entry));
+        (x.0, x.1, entry, λ (r : Result Number Refusal) (e : answer_outcome r ≡ step_of p d code n k). given_step r x.0 (e ∙ entry));
     quotient_given =
         let m = coded p d code n is in
         let v = quotient (value p) (value d) in
         let x = round m.0 n v in
         let last : after_step p d (task_of code n) 32 ≡ given x = rw m.1 m.2.rounded_once in
         let entry = quotient_taken is ∙ sym (coded_once p d code n is) ∙ last in
-        (m.0, m.1, entry, λ (r : Quotient) (e : marked_quotient r ≡ marked v (quotient_of p d code n)). given_quotient r x (accuracy_of (value x) v) (e ∙ ap (marked v) entry));
+        (m.0, m.1, entry, λ (r : Result Rounded Refusal) (e : marked_answer r ≡ marked v (quotient_of p d code n)). given_answer r x (accuracy_of (value x) v) (e ∙ ap (marked v) entry));
   }
 
 -- The theorem, whole: for every admissible dividend, every admissible divisor but zero, the six modes and every precision from 1 to 64 the seed is near,

@@ -1,20 +1,19 @@
 -- What the theorem on the steps and the quotient says; proofs/Theorem has its proof.
-use Rattle.std.specs.Prelude.{◌≡◌, true, false, ℕ, ◌^◌, ◌≤◌, pos}
+use Rattle.std.specs.Prelude.{◌≡◌, true, false, ℕ, ◌^◌, ◌≤◌, pos, Ok}
+use Rattle.std.specs.declared.result.Result.{Result}
+use Rattle.refusals.specs.declared.Refusal.{Refusal}
 use Rattle.numbers.specs.Number.{is_working, is_admissible}
 use Rattle.numbers.specs.Fraction.{Fraction, Equal, Below, value, sum, difference, product, quotient, magnitude}
 use Rattle.numbers.specs.Rounding.{round, by_mode, task_of}
-use Rattle.numbers.specs.Accuracy.{accuracy_of, marked}
-use Rattle.numbers.specs.Answer.{Outcome, given, refused}
+use Rattle.numbers.specs.Accuracy.{accuracy_of, marked, marked_answer}
+use Rattle.numbers.specs.Answer.{Outcome, given, refused, answer_outcome}
+use Rattle.numbers.specs.declared.answer.Rounded.{Rounded}
 use Rattle.numbers.specs.declared.number.Number.{Number}
 use Rattle.numbers.specs.declared.task.Mode.{Mode}
 use Rattle.division.specs.Judgement.{IsTaken}
-use Rattle.division.specs.Quotient.{is_zero, marked_quotient, quotient_of}
-use Rattle.division.specs.declared.answer.Quotient.{Quotient}
-use Rattle.division.specs.declared.answer.Quotient.TheVariants as answer
+use Rattle.division.specs.Quotient.{is_zero, quotient_of}
 use Rattle.steps.specs.Steps.{seed, after_step, Fails}
-use Rattle.steps.specs.Wanted.{step_outcome, step_of}
-use Rattle.steps.specs.declared.answer.Step.{Step}
-use Rattle.steps.specs.declared.answer.Step.TheVariants as step
+use Rattle.steps.specs.Wanted.{step_of}
 
 -- x differs from 1 "by less than 2^−8 + 2^−9"
 abbrev pub IsNearOne : Fraction → Type 0
@@ -37,12 +36,12 @@ pub record IsDivided (p d : Number) (mode : Mode) (n : ℕ) : Type 0 where
 pub record IsAnswered (p d : Number) (code n : ℕ) : Type 0 where
   -- the value of the table after every step
   pub step_given : (k : ℕ) → 1 ≤ k → k ≤ 32
-      → (x : Number) × (after_step p d (task_of code n) k ≡ given x) × (step_of p d code n k ≡ given x) × ((r : Step) → step_outcome r ≡ step_of p d code n k → r ≡ step.Given x)
+      → (x : Number) × (after_step p d (task_of code n) k ≡ given x) × (step_of p d code n k ≡ given x) × ((r : Result Number Refusal) → answer_outcome r ≡ step_of p d code n k → r ≡ Ok x)
   -- the exact quotient rounded once, by the mode that the code names, with where that lies against it
   pub quotient_given :
       let x = quotient (value p) (value d) in
       (mode : Mode) × (task_of code n ≡ by_mode mode n) × (quotient_of p d code n ≡ given (round mode n x))
-      × ((r : Quotient) → marked_quotient r ≡ marked x (quotient_of p d code n) → r ≡ answer.Given (round mode n x) (accuracy_of (value (round mode n x)) x))
+      × ((r : Result Rounded Refusal) → marked_answer r ≡ marked x (quotient_of p d code n) → r ≡ Ok (record { number = round mode n x; accuracy = accuracy_of (value (round mode n x)) x }))
 
 -- a working number, or one of the refusals up to `last`: "7 and 8 never leave a division"
 unfoldable pub IsAnswer : ℕ → Outcome → Type 0

@@ -1,24 +1,10 @@
 -- Document 01, "What callers get": the value after a wanted step.
 use Rattle.std.specs.Prelude.{Bool, not, ◌&&◌, cond, ℕ, leb}
 use Rattle.numbers.specs.Rounding.{task_of}
-use Rattle.numbers.specs.Answer.{Outcome, given, refused}
+use Rattle.numbers.specs.Answer.{Outcome, refused}
 use Rattle.numbers.specs.declared.number.Number.{Number}
 use Rattle.division.specs.Quotient.{unless_indivisible}
 use Rattle.steps.specs.Steps.{after_step}
-use Rattle.steps.specs.declared.answer.Step.{Step}
-use Rattle.steps.specs.declared.answer.Step.TheVariants.{Given, UnknownMode, BadPrecision, FirstUnfit, SecondUnfit, ZeroDivisor, NoSuchStep, ExponentOutside, TooManyBits}
-
--- "Where an answer is an enum, a definition gives this paper's number and values for each case of the enum"
-unfoldable pub step_outcome : Step → Outcome
-step_outcome (Given x) = given x
-step_outcome UnknownMode = refused 1
-step_outcome BadPrecision = refused 2
-step_outcome FirstUnfit = refused 3
-step_outcome SecondUnfit = refused 4
-step_outcome ZeroDivisor = refused 5
-step_outcome NoSuchStep = refused 6
-step_outcome ExponentOutside = refused 7
-step_outcome TooManyBits = refused 8
 
 -- Row 6: "step not 1 to 32"
 unfoldable pub is_step : ℕ → Bool

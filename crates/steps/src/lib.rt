@@ -1,10 +1,9 @@
-// The thirty-two steps of source document 001: `wanted` has the value after any step; what it answers
-// stands in `answer`.
+// The thirty-two steps of source document 001: `wanted` has the value after any step.
 #![tactic(auto)]
 
-pub mod answer;
 mod digit;
 mod line;
+mod operands;
 mod reciprocal;
 mod seed;
 mod tasks;

@@ -1,13 +1,48 @@
--- `steps::line::combined` meets its contract: a refused operand is returned as it is, and two numbers are worked out by `operate`.
-use Rattle.steps.proofs.Laws.Combined.{first_refused, second_refused, both_given}
+-- `steps::line::combined` meets its contract: a refused operand is handed on, and two numbers are worked out by `operate`.
+use Rattle.std.proofs.Common.{sym, Ok, Err}
+use Rattle.std.proofs.lemmas.Result.{err_from_is_err_and}
+use Rattle.numbers.specs.Accuracy.{marked_answer, unmarked}
+use Rattle.numbers.specs.Fraction.{value}
+use Rattle.numbers.proofs.Laws.Fits.{given_working}
+use Rattle.numbers.proofs.Laws.Scaled.{value_fraction}
+use Rattle.arithmetic.specs.Operations.{exact_of}
+use Rattle.arithmetic.proofs.Laws.Operations.{exact_fraction}
+use Rattle.steps.specs.Run.{line_outcome}
+use Rattle.steps.specs.Steps.{line_of_both}
+use Rattle.steps.proofs.Laws.Combined.{both_given}
 use Rattle.steps.proofs.line.combined.Goals as goal
 
-pub returns-in_default : goal.returns-in_default
-returns-in_default c = first_refused _ _ _ _ c.in_default.not-Given
+pub returns-in_err-x : goal.returns-in_err-x
+unfolding line_outcome line_of_both
+returns-in_err-x c =
+    let p = err_from_is_err_and c.from_residual.result c.from_residual.ensures.1 in
+    rw (p.1, p.2, c.in_err-x.was)
 
-pub returns-in_default-b : goal.returns-in_default-b
-returns-in_default-b c = second_refused _ _ _ _ _ _ c.in-Given.is c.in_default-b.not-Given
+pub returns-in_err-y : goal.returns-in_err-y
+unfolding line_outcome line_of_both
+returns-in_err-y c =
+    let p = err_from_is_err_and c.from_residual-in_err-y.result c.from_residual-in_err-y.ensures.1 in
+    rw (p.1, p.2, c.in_ok-x.was, c.in_err-y.was)
+
+pub returns-in_err-r : goal.returns-in_err-r
+unfolding line_outcome line_of_both marked_answer unmarked
+returns-in_err-r c =
+    let p = err_from_is_err_and c.from_residual-in_err-r.result c.from_residual-in_err-r.ensures.1 in
+    rw (p.1, p.2, c.in_ok-x.was, c.in_ok-y.was) (both_given _ c.args.task.precise c.args.operation c.in_ok-x.x.number c.in_ok-y.y.number (Err c.in_err-r.field-0.0) c.in_ok-x.x.fit c.in_ok-y.y.fit c.in_err-r.ensures)
+
+pub invariant_of-result : goal.invariant_of-result
+unfolding marked_answer unmarked
+invariant_of-result c =
+    let x = c.in_ok-x.x.number in
+    let y = c.in_ok-y.y.number in
+    let total = exact_fraction c.args.operation (value x) (value y) (value_fraction x) (value_fraction y) in
+    record {
+      fit =
+          given_working _ (exact_of c.args.operation (value x) (value y)) _ total c.args.task.precise.0 c.args.task.precise.1
+          (sym (both_given _ c.args.task.precise c.args.operation c.in_ok-x.x.number c.in_ok-y.y.number (Ok c.in_ok-r.r) c.in_ok-x.x.fit c.in_ok-y.y.fit c.in_ok-r.ensures));
+    }
 
 pub returns : goal.returns
+unfolding line_outcome line_of_both marked_answer unmarked
 returns c =
-    both_given _ c.requires.2 c.args.operation _ _ _ _ _ _ _ c.in-Given.is c.in-Given-b.is c.requires.0 c.requires.1 c.operate.ensures
+    rw (c.in_ok-x.was, c.in_ok-y.was) (both_given _ c.args.task.precise c.args.operation c.in_ok-x.x.number c.in_ok-y.y.number (Ok c.in_ok-r.r) c.in_ok-x.x.fit c.in_ok-y.y.fit c.in_ok-r.ensures)

@@ -4,7 +4,6 @@ use mathlib.Core.Bool.{false}
 use Prim.Native.Nat.{◌≤◌}
 use lib.Dec.{lit≤}
 use lib.IntN.{pos}
-use Rattle.numbers.specs.Accuracy.{marked_answer, unmarked}
 use Rattle.numbers.specs.Answer.{Outcome, given, refused, rounded}
 use Rattle.numbers.specs.Fraction.{Equal, value, signed, difference, product}
 use Rattle.numbers.specs.Number.{is_between, is_significand, is_working_exponent, is_fit}
@@ -15,7 +14,7 @@ use Rattle.numbers.specs.declared.task.Task.{Task}
 use Rattle.numbers.proofs.Laws.Scaled.{value_fraction}
 use Rattle.numbers.proofs.Laws.Fractions.{difference_fraction, difference_equal, product_fraction, product_equal}
 use Rattle.numbers.proofs.Laws.Value.{same_outcome}
-use Rattle.steps.specs.Run.{IsResult, HasComplement}
+use Rattle.steps.specs.Run.{line_outcome, HasComplement}
 use Rattle.steps.specs.Steps.{complement, refined, line_of_both}
 use Rattle.steps.proofs.Laws.Complement.{two_less, complement_fraction, refined_fraction}
 use Rattle.steps.proofs.reciprocal.refined.Goals as goal
@@ -51,14 +50,10 @@ refined_line task (given x) (given t) c r n0 has e f =
     ∙ same_outcome task (product (value x) y) (refined (value x) (value t)) (product_fraction (value x) y x0 y0) (refined_fraction (value x) (value t) x0 t0) n0
     (product_equal (value x) y (value x) (complement (value t)) refl has.2)
 
-pub combined-c-requires : goal.combined-c-requires
-unfolding marked_answer unmarked IsResult is_fit is_significand is_working_exponent is_between
-combined-c-requires c = (refl, c.requires.1, (lit≤ tt, lit≤ tt))
-
-pub combined-requires : goal.combined-requires
-combined-requires c = (c.requires.0, c.combined-c.ensures.1, (lit≤ tt, lit≤ tt))
+pub invariant_of-combined : goal.invariant_of-combined
+unfolding is_fit is_significand is_working_exponent is_between
+invariant_of-combined c = record { fit = refl }
 
 pub returns : goal.returns
-unfolding marked_answer unmarked made
-returns c =
-    (refined_line _ _ _ _ _ (lit≤ tt) c.requires.2 c.combined-c.ensures.0 c.combined.ensures.0, c.combined.ensures.1)
+unfolding line_outcome made
+returns c = refined_line _ _ _ _ _ (lit≤ tt) c.requires c.combined-c.ensures c.combined.ensures

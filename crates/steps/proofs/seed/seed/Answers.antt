@@ -11,12 +11,9 @@ use mir.Syntax.{w32}
 use mir.Val.{SFits, to_z, of_z}
 use borrow.Author.Rules.{rules}
 use Rattle.numbers.specs.Biased.{bias}
-use Rattle.numbers.specs.Accuracy.{marked_answer, unmarked, outcome}
 use Rattle.numbers.specs.Answer.{given, rounded}
-use Rattle.numbers.specs.Number.{is_admissible}
+use Rattle.numbers.specs.Number.{is_working, is_admissible}
 use Rattle.numbers.specs.Rounding.{claim}
-use Rattle.numbers.specs.declared.answer.Accuracy.TheVariants as accuracy
-use Rattle.numbers.specs.declared.answer.Answer.TheVariants.{Given}
 use Rattle.numbers.specs.declared.number.Number.{Number}
 use Rattle.numbers.specs.declared.number.Number.TheVariants.{Zero, Finite}
 use Rattle.numbers.proofs.Laws.Working.{finite_working}
@@ -29,7 +26,6 @@ use Rattle.division.specs.Seed.{index_of}
 use Rattle.division.proofs.Laws.Admissible.{admissible_parts}
 use Rattle.division.proofs.Laws.Seeds.{entry_for, entry_range, index_below}
 use Rattle.division.proofs.Laws.Range.{InRange, IsBounded, lowest_admissible}
-use Rattle.steps.specs.Run.{IsResult}
 use Rattle.steps.specs.Steps.{seed}
 use Rattle.steps.proofs.Laws.SeedStep.{seed_step}
 use Rattle.steps.proofs.seed.seed.Goals as goal
@@ -72,8 +68,7 @@ module _ (d : Number) (s : Bool) (e : ℤ) (S : ℕ) (is : d ≡ Finite s e S) (
         ap₂ (λ (z : ℤ) (n : ℕ). Finite s z n) (to_z-of_z exponent_fits ∙ exponent_is)
         (ap (λ (n : ℕ). n * 2 ^ 56 % 2 ^ 64) entry ∙ mod-eq_of_lt (omega (arith, byte.1)))
 
-    seeded : (outcome (Given made accuracy.Exact) ≡ rounded (claim 8) (seed d)) × IsResult (outcome (Given made accuracy.Exact))
-    unfolding marked_answer unmarked IsResult
+    seeded : (given made ≡ rounded (claim 8) (seed d)) × (is_working made ≡ true)
     seeded =
         let step = seed_step s b S range in
         let x = Finite s (minus (131069 - b) bias) (entry_for S * 2 ^ 56) in
@@ -84,15 +79,20 @@ module _ (d : Number) (s : Bool) (e : ℤ) (S : ℕ) (is : d ≡ Finite s e S) (
         let divisor : Finite s (minus b bias) S ≡ d = ap (λ (z : ℤ). Finite s z S) (sym parts.1) ∙ sym is in
         (ap given (sym number) ∙ sym step.step ∙ ap (λ (y : Number). rounded (claim 8) (seed y)) divisor, rw (← number) step.fit)
 
-pub returns-in_default : goal.returns-in_default
-returns-in_default c = absurd (not_zero _ c.in_default.is c.requires.1)
+pub unreachable-requires : goal.unreachable-requires
+unreachable-requires c = not_zero _ c.in-Zero.is c.args.d.nonzero
 
 pub overflow_sub-result : goal.overflow_sub-result
 overflow_sub-result c =
     let fits : SFits w32 c.in-Finite.exponent = search rules in
-    exponent_fits _ _ _ _ c.in-Finite.is c.requires.0 fits
+    exponent_fits _ _ _ _ c.in-Finite.is c.args.d.fit fits
+
+pub invariant_of-result : goal.invariant_of-result
+invariant_of-result c =
+    let fits : SFits w32 c.in-Finite.exponent = search rules in
+    record { fit = (seeded _ _ _ _ c.in-Finite.is c.args.d.fit fits c.entry_for.result c.entry_for.ensures).1 }
 
 pub returns : goal.returns
 returns c =
     let fits : SFits w32 c.in-Finite.exponent = search rules in
-    seeded _ _ _ _ c.in-Finite.is c.requires.0 fits c.entry_for-t.result c.entry_for-t.ensures
+    (seeded _ _ _ _ c.in-Finite.is c.args.d.fit fits c.entry_for.result c.entry_for.ensures).0

@@ -2,44 +2,30 @@
 // each its answer and the whole state that it leaves. The input ends where no whole line is left.
 #![tactic(auto)]
 
-mod answer;
 mod call;
 mod run;
 mod state;
 
 use depot::state::Depot;
-use lines::input::STDIN_FILENO;
-use lines::line;
+use lines::line::Line;
+use lines::{input, out};
 
-// What reading and running a line leaves.
-#[derive(Clone, Copy)]
-enum Turn {
-    Next(Depot),
-    Ended,
+// Reads the call of a line, makes it and prints its answer, if the line is a call.
+fn answer(line: Line, depot: &mut Depot) -> Option<()> {
+    let call = call::read(line, *depot)?;
+    run::answer(call, depot)
 }
 
-// Reads one line and runs its call on the depot.
-fn run_line(depot: Depot) -> Turn {
-    let mut text = [0u8; line::WIDTH];
-    let got = io::read_full(STDIN_FILENO, &mut text);
-    if got < line::WIDTH {
-        return Turn::Ended;
-    }
-    let next = run::run(call::read(&text, depot), depot);
-    state::print(next);
-    Turn::Next(next)
-}
-
-// A proved loop has to end, and nothing says that the input does: the turns are counted down from a
-// number that no run uses up.
+// A proved loop has to end, and nothing says that the input does: no run uses up so many turns.
 fn main() {
     let mut depot = Depot::fresh();
-    let mut turns = u64::MAX;
-    while turns > 0 {
-        let Turn::Next(next) = run_line(depot) else {
-            break;
+    for _ in 0..u64::MAX {
+        let Some(text) = input::line() else {
+            return;
         };
-        depot = next;
-        turns -= 1;
+        if answer(Line::new(&text), &mut depot).is_none() {
+            out::line("not a call");
+        }
+        out::line(state::Shown(depot));
     }
 }

@@ -1,62 +1,45 @@
 // Makes a call and prints its answer.
-use super::answer;
 use super::call::Call;
 use depot::rate::rate_of;
 use depot::state::Depot;
-use lines::input::STDIN_FILENO;
+use lines::answer::Answer;
+use lines::number::{Bounds, Marked};
+use lines::{input, out};
 
 // The most bytes that a line may offer: more than a block has.
 const MOST: usize = 1_024;
 
-// The state that the call leaves.
-pub fn run(call: Call, depot: Depot) -> Depot {
+// Makes the call on the depot and prints the answer: `fit` or `unfit` for a state handed in, `taken` for
+// a block, two figures, a rate with its accuracy, or `refused` with the row that refused. A line that
+// offers too many bytes is no call.
+pub fn answer(call: Call, depot: &mut Depot) -> Option<()> {
     match call {
-        Call::HandIn(next) => hand_in(next),
-        Call::Load(length) => load(depot, length),
-        Call::Ask => ask(depot),
+        Call::HandIn(next) => {
+            *depot = next;
+            out::line(if next.is_fit() { "fit" } else { "unfit" });
+        }
+        Call::Load(length) => return load(length, depot),
+        Call::Ask => out::line(Answer(
+            depot.figures().map(|bracket| Bounds {
+                low: bracket.low,
+                high: bracket.high,
+            }),
+        )),
         Call::Rate {
             code,
             precision,
             fuel,
             distance,
-        } => {
-            answer::print_rate(rate_of(fuel, distance, code, precision));
-            depot
-        }
-        Call::Unreadable => leave(depot),
+        } => out::line(Answer(rate_of(fuel, distance, code, precision).map(Marked))),
     }
-}
-
-fn hand_in(depot: Depot) -> Depot {
-    answer::print_fitness(depot.is_fit());
-    depot
-}
-
-fn ask(depot: Depot) -> Depot {
-    answer::print_bracket(depot.figures());
-    depot
-}
-
-fn leave(depot: Depot) -> Depot {
-    answer::print_no_call();
-    depot
+    Some(())
 }
 
 // Loads the next bytes of the input: as many as are said, or as are left.
-fn load(depot: Depot, length: u32) -> Depot {
-    let wanted = length as usize;
-    if wanted > MOST {
-        return leave(depot);
-    }
-    let mut space = [0u8; MOST];
-    load_read(depot, &mut space[..wanted])
-}
-
-// Loads what the input fills of these bytes.
-fn load_read(depot: Depot, bytes: &mut [u8]) -> Depot {
-    let got = io::read_full(STDIN_FILENO, bytes);
-    let done = depot.load(&bytes[..got]);
-    let said = done.answer;
-    answer::print_loading(said);
-    done.depot
+fn load(length: u32, depot: &mut Depot) -> Option<()> {
+    let mut space = [0; MOST];
+    let bytes = space.get_mut(..length as usize)?;
+    let got = input::fill(bytes);
+    out::line(Answer(depot.load(&bytes[..got]).map(|()| "taken")));
+    Some(())
 }

@@ -2,9 +2,9 @@
 // printed is compared, not proved.
 #![tactic(auto)]
 
+pub mod answer;
 pub mod buffer;
 pub mod input;
 pub mod line;
 pub mod number;
 pub mod out;
-mod signed;

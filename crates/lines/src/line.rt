@@ -1,158 +1,98 @@
-// Reads a line from left to right. A cursor says where the next byte stands, and what reads
-// something answers with the cursor past it.
+// Reads a line from left to right. What reads something moves the line past it, and answers `None` where
+// something else stands there.
+
+ghost use Rattle.std.specs.Prelude.{◌≡◌, ◌≢◌, ◌++◌, List, [], ◌∷◌, ℕ, MatchOption, IfSome, IsNone, length};
+ghost use Rattle.std.specs.List.{AllWithin};
 
 // The bytes of a line, its newline among them.
 pub const WIDTH: usize = 80;
 
-pub type Line = [u8; WIDTH];
-
-// A decimal number above this is too large for every field.
-const LARGEST: u64 = 0xffff_ffff;
-
-// A place in a line.
+// What is left of a line.
 #[derive(Clone, Copy)]
-pub struct Cursor {
-    pub at: usize,
+pub struct Line<'a> {
+    pub rest: &'a [u8],
 }
 
-// The place past some bytes, or that other bytes stand there.
-#[derive(Clone, Copy)]
-pub enum Place {
-    Past(Cursor),
-    Other,
-}
+impl<'a> Line<'a> {
+    // The whole line.
+    pub fn new(text: &'a [u8; WIDTH]) -> Line<'a>
+        ensures { result.rest.now ≡ text.now }
+    {
+        Line { rest: text }
+    }
 
-// A whole number of a line.
-#[derive(Clone, Copy)]
-pub enum Whole {
-    Read { value: u64, next: Cursor },
-    Unreadable,
-}
+    // What is left behind the token, if the line begins with it.
+    pub fn past(self, token: &[u8]) -> Option<Line<'a>>
+        ensures { MatchOption result ((rest : List ℕ) → self.entry.rest.now ≢ token.now ++ rest) (λ line. self.entry.rest.now ≡ token.now ++ line.rest.now) }
+    {
+        let rest = self.rest.strip_prefix(token)?;
+        Some(Line { rest })
+    }
 
-// A whole number below 2^32.
-#[derive(Clone, Copy)]
-pub enum Word {
-    Read { value: u32, next: Cursor },
-    Unreadable,
-}
+    // Moves past the token. A line that begins otherwise stays as it is.
+    pub fn skip(&mut self, token: &[u8]) -> Option<()>
+        ensures moved { IfSome result (λ _. self.old.rest.now ≡ token.now ++ self.new.rest.now) }
+        ensures absent { IsNone result → (rest : List ℕ) → self.old.rest.now ≢ token.now ++ rest }
+        ensures stays { IsNone result → self.new ≡ self.old }
+    {
+        *self = self.past(token)?;
+        Some(())
+    }
 
-// Does the token stand at the cursor?
-pub fn past(text: &Line, c: Cursor, token: &[u8]) -> Place {
-    let mut at = c.at;
-    let mut i = 0;
-    while i < token.len() {
-        if at >= WIDTH {
-            return Place::Other;
+    // A space and a decimal number below 2^32.
+    pub fn word(&mut self) -> Option<u32> {
+        self.skip(b" ")?;
+        self.decimal()
+    }
+
+    // A decimal number below 2^32, up to the next byte that is no digit.
+    pub fn decimal(&mut self) -> Option<u32> {
+        let count = self
+            .rest
+            .iter()
+            .take_while(|byte| byte.is_ascii_digit())
+            .count();
+        let (digits, rest) = self.rest.split_at_checked(count)?;
+        self.rest = rest;
+        str::from_utf8(digits).ok()?.parse().ok()
+    }
+
+    // A number in sixteen hexadecimal digits.
+    pub fn sixteen_digits(&mut self) -> Option<u64> {
+        let (digits, rest) = self.rest.split_first_chunk::<16>()?;
+        let mut value = 0;
+        for digit in digits {
+            value = value << 4 | u64::from(digit_value(*digit)?);
         }
-        if text[at] != token[i] {
-            return Place::Other;
-        }
-        at += 1;
-        i += 1;
+        self.rest = rest;
+        Some(value)
     }
-    Place::Past(Cursor { at })
-}
 
-// The place past the token that a line begins with.
-pub fn begun(text: &Line, token: &[u8]) -> Place {
-    past(text, Cursor { at: 0 }, token)
-}
+    // A byte in two hexadecimal digits. A line that begins otherwise stays as it is.
+    pub fn two_digits(&mut self) -> Option<u8>
+        ensures stays { IsNone result → self.new ≡ self.old }
+    {
+        let ([high, low], rest) = self.rest.split_first_chunk::<2>()?;
+        let value = digit_value(*high)? << 4 | digit_value(*low)?;
+        self.rest = rest;
+        Some(value)
+    }
 
-// The value of a decimal or hexadecimal digit, and 16 for any other byte.
-pub fn digit(byte: u8) -> u64 {
-    if byte < b'0' {
-        return 16;
-    }
-    if byte <= b'9' {
-        return wide(byte - b'0');
-    }
-    if byte < b'a' {
-        return 16;
-    }
-    if byte <= b'f' {
-        return wide(byte - b'a' + 10);
-    }
-    16
-}
-
-fn wide(byte: u8) -> u64 {
-    byte as u64
-}
-
-// The decimal number at the cursor, up to the next byte that is no digit.
-pub fn read_decimal(text: &Line, c: Cursor) -> Whole {
-    let start = c.at;
-    let mut at = start;
-    let mut value: u64 = 0;
-    while at < WIDTH {
-        let d = digit(text[at]);
-        if d > 9 {
-            break;
-        }
-        if value > LARGEST {
-            return Whole::Unreadable;
-        }
-        value = value * 10 + d;
-        at += 1;
-    }
-    if at == start {
-        return Whole::Unreadable;
-    }
-    Whole::Read {
-        value,
-        next: Cursor { at },
+    // Whether the rest of the line is spaces and the newline.
+    pub fn end(self) -> Option<()>
+        ensures { IfSome result (λ _. (spaces : List ℕ) × (self.entry.rest.now ≡ spaces ++ 10 ∷ []) × AllWithin (λ byte. byte ≡ 32) spaces 0 (length spaces)) }
+    {
+        let spaces = self.rest.strip_suffix(b"\n")?;
+        spaces.iter().all(|byte| *byte == b' ').then_some(())
     }
 }
 
-// The number whose sixteen hexadecimal digits, in lower case, stand at the cursor.
-pub fn read_sixteen_digits(text: &Line, c: Cursor) -> Whole {
-    let mut at = c.at;
-    let mut value: u64 = 0;
-    let mut left: u32 = 16;
-    while left > 0 {
-        if at >= WIDTH {
-            return Whole::Unreadable;
-        }
-        let d = digit(text[at]);
-        if d > 15 {
-            return Whole::Unreadable;
-        }
-        // What the remainder drops is zero: sixteen digits make 64 bits.
-        value = value % 0x1000_0000_0000_0000 * 16 + d;
-        at += 1;
-        left -= 1;
+// The value of a hexadecimal digit in lower case.
+// Kept: `char::to_digit` takes upper case too.
+fn digit_value(byte: u8) -> Option<u8> {
+    match byte {
+        b'0'..=b'9' => Some(byte - b'0'),
+        b'a'..=b'f' => Some(byte - b'a' + 10),
+        _ => None,
     }
-    Whole::Read {
-        value,
-        next: Cursor { at },
-    }
-}
-
-// A space and a decimal number below 2^32.
-pub fn read_word(text: &Line, c: Cursor) -> Word {
-    let Place::Past(start) = past(text, c, b" ") else {
-        return Word::Unreadable;
-    };
-    let Whole::Read { value, next } = read_decimal(text, start) else {
-        return Word::Unreadable;
-    };
-    if value > LARGEST {
-        return Word::Unreadable;
-    }
-    Word::Read {
-        value: value as u32,
-        next,
-    }
-}
-
-// Is the rest of the line spaces and the newline?
-pub fn ended(text: &Line, c: Cursor) -> bool {
-    let mut at = c.at;
-    while at < WIDTH - 1 {
-        if text[at] != b' ' {
-            return false;
-        }
-        at += 1;
-    }
-    text[WIDTH - 1] == b'\n'
 }

@@ -1,132 +1,86 @@
 // Reads and prints a number: `zero`, or its sign, the sixteen hexadecimal digits of its significand
 // and its exponent in decimal; behind it, where it has one, its accuracy: `below`, `exact` or `above`.
-use super::line::{Cursor, Line, Place, Whole};
-use super::{line, out, signed};
-use numbers::answer::Accuracy;
+use super::line::Line;
+use numbers::answer::{Accuracy, Rounded};
 use numbers::number::Number;
+use std::fmt;
 
-// An exponent of a line.
-#[derive(Clone, Copy)]
-enum Exponent {
-    Read { value: i32, next: Cursor },
-    Unreadable,
-}
-
-// An operand of a line.
-#[derive(Clone, Copy)]
-pub enum Operand {
-    Read { value: Number, next: Cursor },
-    Unreadable,
-}
-
-// The exponent whose minus ends at the cursor.
-fn read_negative(text: &Line, c: Cursor) -> Exponent {
-    let Whole::Read { value, next } = line::read_decimal(text, c) else {
-        return Exponent::Unreadable;
-    };
-    if value > signed::LARGEST_NEGATIVE {
-        return Exponent::Unreadable;
+// A space and a number.
+pub fn read(line: &mut Line) -> Option<Number> {
+    if line.skip(b" zero").is_some() {
+        return Some(Number::Zero);
     }
-    Exponent::Read {
-        value: signed::negative(value),
-        next,
-    }
-}
-
-// A space and an exponent.
-fn read_exponent(text: &Line, c: Cursor) -> Exponent {
-    if let Place::Past(digits) = line::past(text, c, b" -") {
-        return read_negative(text, digits);
-    }
-    let Place::Past(digits) = line::past(text, c, b" ") else {
-        return Exponent::Unreadable;
-    };
-    let Whole::Read { value, next } = line::read_decimal(text, digits) else {
-        return Exponent::Unreadable;
-    };
-    if value > signed::LARGEST_POSITIVE {
-        return Exponent::Unreadable;
-    }
-    Exponent::Read {
-        value: value as i32,
-        next,
-    }
-}
-
-// The significand and the exponent of an operand with this sign.
-fn read_finite(text: &Line, c: Cursor, negative: bool) -> Operand {
-    let Whole::Read {
-        value: significand,
-        next,
-    } = line::read_sixteen_digits(text, c)
-    else {
-        return Operand::Unreadable;
-    };
-    let Exponent::Read {
-        value: exponent,
-        next,
-    } = read_exponent(text, next)
-    else {
-        return Operand::Unreadable;
-    };
-    let value = Number::Finite {
+    let negative = read_sign(line)?;
+    let significand = line.sixteen_digits()?;
+    let exponent = read_exponent(line)?;
+    Some(Number::Finite {
         negative,
         exponent,
         significand,
-    };
-    Operand::Read { value, next }
+    })
 }
 
-// A space and an operand.
-pub fn read(text: &Line, c: Cursor) -> Operand {
-    if let Place::Past(next) = line::past(text, c, b" zero") {
-        let value = Number::Zero;
-        return Operand::Read { value, next };
+// A sign with a space on each side. Is it a minus?
+fn read_sign(line: &mut Line) -> Option<bool> {
+    if line.skip(b" + ").is_some() {
+        return Some(false);
     }
-    if let Place::Past(next) = line::past(text, c, b" + ") {
-        return read_finite(text, next, false);
-    }
-    if let Place::Past(next) = line::past(text, c, b" - ") {
-        return read_finite(text, next, true);
-    }
-    Operand::Unreadable
+    line.skip(b" - ")?;
+    Some(true)
 }
 
-// Prints a number, with no newline.
-pub fn print(x: Number) {
-    match x {
-        Number::Zero => out::bytes(b"zero"),
-        Number::Finite {
-            negative,
-            exponent,
-            significand,
-        } => {
-            print_finite(negative, exponent, significand);
+// A space and an exponent.
+fn read_exponent(line: &mut Line) -> Option<i32> {
+    if line.skip(b" -").is_some() {
+        return i32::try_from(-i64::from(line.decimal()?)).ok();
+    }
+    i32::try_from(line.word()?).ok()
+}
+
+// A number as it is printed.
+#[derive(Clone, Copy)]
+pub struct Shown(pub Number);
+
+impl fmt::Display for Shown {
+    fn fmt<W: fmt::Write>(&self, f: &mut fmt::Formatter<W>) -> fmt::Result {
+        match self.0 {
+            Number::Zero => write!(f, "zero"),
+            Number::Finite {
+                negative,
+                exponent,
+                significand,
+            } => {
+                let sign = if negative { '-' } else { '+' };
+                write!(f, "{sign} {significand:016x} {exponent}")
+            }
         }
     }
 }
 
-// Prints a number and its accuracy, with no newline.
-pub fn print_marked(x: Number, accuracy: Accuracy) {
-    print(x);
-    match accuracy {
-        Accuracy::Below => out::bytes(b" below"),
-        Accuracy::Exact => out::bytes(b" exact"),
-        Accuracy::Above => out::bytes(b" above"),
+// A number and its accuracy as they are printed.
+#[derive(Clone, Copy)]
+pub struct Marked(pub Rounded);
+
+impl fmt::Display for Marked {
+    fn fmt<W: fmt::Write>(&self, f: &mut fmt::Formatter<W>) -> fmt::Result {
+        let mark = match self.0.accuracy {
+            Accuracy::Below => "below",
+            Accuracy::Exact => "exact",
+            Accuracy::Above => "above",
+        };
+        write!(f, "{} {mark}", Shown(self.0.number))
     }
 }
 
-fn print_finite(negative: bool, exponent: i32, significand: u64) {
-    if negative {
-        out::bytes(b"- ");
-    } else {
-        out::bytes(b"+ ");
+// A low and a high number as they are printed.
+#[derive(Clone, Copy)]
+pub struct Bounds {
+    pub low: Number,
+    pub high: Number,
+}
+
+impl fmt::Display for Bounds {
+    fn fmt<W: fmt::Write>(&self, f: &mut fmt::Formatter<W>) -> fmt::Result {
+        write!(f, "low {} high {}", Shown(self.low), Shown(self.high))
     }
-    out::sixteen_digits(significand);
-    if exponent < 0 {
-        out::bytes(b" -");
-    } else {
-        out::bytes(b" ");
-    }
-    out::decimal(signed::magnitude(exponent));
 }

@@ -3,6 +3,7 @@ ghost use Rattle.std.specs.Prelude.{◌≡◌};
 ghost use Rattle.depot.specs.Room.{code_of};
 
 // The low side is rounded down, the high side up: each with its mode code.
+// Kept: codes in place of a `Mode`. The public functions `divide` and `add` take a mode code.
 #[derive(Clone, Copy)]
 pub(crate) enum Side {
     Low = 5,

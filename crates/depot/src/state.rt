@@ -85,7 +85,6 @@ fn is_fit_sum(x: Number) -> bool
 }
 
 // Is x below zero?
-#[tactic(auto, unfolding(crate::specs::Depot::is_negative_number))]
 fn is_negative(x: Number) -> bool
     ensures { result ≡ is_negative_number x }
 {

@@ -4,4 +4,3 @@
 
 mod lines;
 pub mod report;
-mod verdict;

@@ -1,10 +1,9 @@
 // The report of an input.
-ghost use Rattle.std.specs.Prelude.{◌≡◌, min};
+ghost use Rattle.std.specs.Prelude.{◌≡◌};
 ghost use Rattle.text.specs.Text.{text_of};
 ghost use Rattle.reporting.specs.Report.{report_of};
 
-use super::verdict::Verdict;
-use super::{lines, verdict};
+use super::lines;
 use blocks::judgement::BLOCK_BYTES;
 use depot::state::Depot;
 use text::text::Text;
@@ -15,26 +14,10 @@ pub fn report_of(input: &[u8]) -> Text
     ensures { text_of result ≡ report_of input.now }
 {
     let mut depot = Depot::fresh();
-    let mut from = 0;
-    while from < input.len() {
-        let to = from + piece_length(input.len() - from);
-        let load = depot.load(&input[from..to]);
-        let answer = load.answer;
-        match verdict::verdict_of(answer) {
-            Verdict::Taken => depot = load.depot,
-            Verdict::Refused(row) => return lines::refused_block(row, depot.blocks),
+    for piece in input.chunks(BLOCK_BYTES) {
+        if let Err(refusal) = depot.load(piece) {
+            return lines::refused_block(refusal, depot.blocks);
         }
-        from = to;
     }
     lines::closing(depot)
-}
-
-// How many bytes the next piece has, where `left` bytes are left.
-fn piece_length(left: usize) -> usize
-    ensures { result ≡ min 512 left }
-{
-    if left < BLOCK_BYTES {
-        return left;
-    }
-    BLOCK_BYTES
 }

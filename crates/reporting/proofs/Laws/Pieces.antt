@@ -6,7 +6,7 @@ use native.Mathlib.Decide.{dec_le}
 use native.Mathlib.Nat.{le_refl, lt_of_not-le}
 use native.Mathlib.Omega.{arith}
 use lib.ListN.{length, take, drop, length-take, length-drop, length-append, take-append-drop}
-use lib.Seq.{length-take-le, take_all, take-append-le, drop-append-le, take-take, drop-drop}
+use lib.Seq.{length-take-le, take_all, take_at, drop_at, take-append-le, drop-append-le, take-take}
 use Rattle.little_endian.specs.Bytes.{IsBytes}
 use Rattle.little_endian.proofs.Laws.Bytes.{bytes_take, bytes_drop}
 use Rattle.blocks.specs.Lists.{All}
@@ -43,15 +43,17 @@ pub no_piece : (input : List ℕ) → length input ≡ 0 → pieces_of input ≡
 unfolding pieces_of
 no_piece input e = rw (no_bytes input e) (none_by 0)
 
--- the pieces of what is left from a place on: the next one ends where as many bytes are passed as it has
-module _ (input : List ℕ) (from to : ℕ) (more : from < length input) (is : to ≡ from + min 512 (length input - from)) where
-  pub next_piece : pieces_of (drop from input) ≡ take (to - from) (drop from input) ∷ pieces_of (drop to input)
-  next_piece =
-      let left : length (drop from input) ≡ length input - from = length-drop from input in
-      let size : to - from ≡ min 512 (length (drop from input)) = rw (left, is) (omega arith) in
-      let end : to ≡ from + min 512 (length (drop from input)) = rw left is in
-      rw (size, end, take_least 512 (drop from input), ← drop-drop (min 512 (length (drop from input))) from input, drop_least 512 (drop from input))
-      (first_piece (drop from input) (rw left (omega arith)))
+-- the next piece of an input has 512 bytes, or all that there are
+pub record IsNextPiece (input piece rest : List ℕ) : Type 0 where
+  pub some : 0 < length input
+  pub parts : input ≡ piece ++ rest
+  pub size : length piece ≡ min 512 (length input)
+
+pub next_piece : (input piece rest : List ℕ) → IsNextPiece input piece rest → pieces_of input ≡ piece ∷ pieces_of rest
+next_piece input piece rest is =
+    let first : take 512 input ≡ piece = sym (take_least 512 input) ∙ rw (← is.size, is.parts) (take_at piece rest (length piece) refl) in
+    let left : drop 512 input ≡ rest = sym (drop_least 512 input) ∙ rw (← is.size, is.parts) (drop_at piece rest (length piece) refl) in
+    rw (← first, ← left) (first_piece input is.some)
 
 -- ---- how an input is cut, and the bytes of its pieces
 

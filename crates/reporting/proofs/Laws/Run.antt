@@ -2,26 +2,26 @@
 use mathlib.Core.List.{List, [], ◌∷◌, ◌++◌, append-nil, append_assoc}
 use mathlib.Core.Option.{Option, none, some}
 use mathlib.Core.Path.{◌≡◌, refl, sym, ap, ◌∙◌}
-use Prim.Native.Nat.{ℕ, zero, suc, min, ◌+◌, ◌-◌, ◌*◌, ◌<◌}
+use Prim.Native.Nat.{ℕ, zero, suc, ◌+◌, ◌*◌, ◌<◌}
 use native.Mathlib.Omega.{arith}
 use lib.ListN.{length, take, drop}
 use lib.Seq.{take-nil}
+use Rattle.std.specs.Prelude.{Ok, Err}
+use Rattle.std.specs.declared.result.Result.{Result}
+use Rattle.refusals.specs.Row.{row_number, refusal_row}
+use Rattle.refusals.specs.declared.Refusal.{Refusal}
 use Rattle.little_endian.specs.Bytes.{IsBytes}
 use Rattle.blocks.specs.Lists.{All}
 use Rattle.blocks.specs.Block.{records_of}
-use Rattle.depot.specs.Depot.{fresh, with_block, Loaded, load_of, loading_row, loaded}
+use Rattle.depot.specs.Depot.{fresh, with_block, Loaded, load_of, loaded}
 use Rattle.depot.specs.Book.{Book, book_row, IsTaken, IsSequence}
-use Rattle.depot.specs.declared.load.Load.{Load}
 use Rattle.depot.specs.declared.state.Depot.{Depot}
 use Rattle.depot.proofs.Laws.Room.{load_taken, blocks_few}
 use Rattle.depot.proofs.Laws.Vans.{records_more}
 use Rattle.depot.proofs.Laws.Reached.{state_of, begun, IsReached, reached_empty, load_agrees, next_reached, next_state}
 use Rattle.depot.proofs.Laws.Sequence.{first_taken}
 use Rattle.reporting.specs.Report.{refused_block_text, pieces_of, after_block, report_from, report_of}
-use Rattle.reporting.specs.Verdict.{verdict_row}
-use Rattle.reporting.specs.declared.verdict.Verdict.{Verdict}
-use Rattle.reporting.specs.declared.verdict.Verdict.TheVariants.{Taken, Refused}
-use Rattle.reporting.proofs.Laws.Pieces.{first_piece, next_piece, first_of, pieces_append}
+use Rattle.reporting.proofs.Laws.Pieces.{IsNextPiece, first_piece, next_piece, first_of, pieces_append}
 
 -- the state with a block more has taken one block more
 one_more : (s : Depot) (block : List ℕ) → (with_block s block).blocks ≡ suc s.blocks
@@ -40,24 +40,23 @@ next s block e =
 
 -- ---- a piece that was loaded
 
-module _ (s : Depot) (input : List ℕ) (from to : ℕ) (more : from < length input) (is : to ≡ from + min 512 (length input - from)) (l : Load)
-    (told : loaded l ≡ load_of s (take (to - from) (drop from input))) (v : Verdict) (judged : verdict_row v ≡ loading_row l.answer) where
+module _ (s : Depot) (input piece rest : List ℕ) (is : IsNextPiece input piece rest)
+    (answer : Result Unit Refusal) (left : Depot) (told : loaded answer left ≡ load_of s piece) where
   -- its row, and what the rest would print
-  by_row : (row : Option ℕ) → loading_row l.answer ≡ row
-      → after_block row s.blocks (report_from l.depot (suc s.blocks) (pieces_of (drop to input))) ≡ report_from s s.blocks (pieces_of (drop from input))
+  by_row : after_block (refusal_row answer) s.blocks (report_from left (suc s.blocks) (pieces_of rest)) ≡ report_from s s.blocks (pieces_of input)
   unfolding report_from loaded
-  by_row row e = rw (next_piece input from to more is, ← told, e)
+  by_row = rw (next_piece input piece rest is, ← told)
 
-  pub after_taken : v ≡ Taken → report_from l.depot l.depot.blocks (pieces_of (drop to input)) ≡ report_from s s.blocks (pieces_of (drop from input))
-  unfolding after_block verdict_row loaded
-  after_taken e =
-      let row : loading_row l.answer ≡ none = sym judged ∙ ap verdict_row e in
-      let on : l.depot.blocks ≡ suc s.blocks = rw (← told) at (next s (take (to - from) (drop from input)) (ap (λ (x : Loaded). x.refusal) (sym told) ∙ row)).more in
-      ap (λ (position : ℕ). report_from l.depot position (pieces_of (drop to input))) on ∙ by_row none row
+  pub after_taken : (u : Unit) → answer ≡ Ok u → report_from left left.blocks (pieces_of rest) ≡ report_from s s.blocks (pieces_of input)
+  unfolding after_block refusal_row loaded
+  after_taken u e =
+      let row : refusal_row answer ≡ none = ap refusal_row e in
+      let on : left.blocks ≡ suc s.blocks = rw (← told) at (next s piece (ap (λ (x : Loaded). x.refusal) (sym told) ∙ row)).more in
+      ap (λ (position : ℕ). report_from left position (pieces_of rest)) on ∙ rw row at by_row
 
-  pub after_refused : (row : ℕ) → v ≡ Refused row → refused_block_text row s.blocks ≡ report_from s s.blocks (pieces_of (drop from input))
-  unfolding after_block verdict_row
-  after_refused row e = by_row (some row) (sym judged ∙ ap verdict_row e)
+  pub after_refused : (refusal : Refusal) → answer ≡ Err refusal → refused_block_text (row_number refusal) s.blocks ≡ report_from s s.blocks (pieces_of input)
+  unfolding after_block refusal_row
+  after_refused refusal e = rw e at by_row
 
 -- ---- a refused piece decides
 

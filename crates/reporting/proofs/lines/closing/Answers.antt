@@ -3,14 +3,10 @@ use Rattle.depot.specs.Figures.{bracket_figures}
 use Rattle.reporting.specs.Report.{closing_by, closing_text}
 use Rattle.reporting.proofs.lines.closing.Goals as goal
 
-pub returns-in-Given : goal.returns-in-Given
+pub returns-in-Ok : goal.returns-in-Ok
 unfolding closing_text closing_by bracket_figures
-returns-in-Given c = rw (c.report.ensures, ← c.figures.ensures, c.in-Given.is)
+returns-in-Ok c = rw (c.report.ensures, ← c.figures.ensures, c.in-Ok.is)
 
-pub returns-in-Unfit : goal.returns-in-Unfit
+pub returns-in-Err : goal.returns-in-Err
 unfolding closing_text closing_by bracket_figures
-returns-in-Unfit c = rw (c.refused_close.ensures, ← c.figures.ensures, c.in-Unfit.is)
-
-pub returns-in-NoneMoved : goal.returns-in-NoneMoved
-unfolding closing_text closing_by bracket_figures
-returns-in-NoneMoved c = rw (c.refused_close-in-NoneMoved.ensures, ← c.figures.ensures, c.in-NoneMoved.is)
+returns-in-Err c = rw (c.refused_close.ensures, ← c.figures.ensures, c.in-Err.is)

@@ -11,4 +11,4 @@ unfolding ascii report_text
 returns c =
     rw (c.with_figure.ensures, c.with_figure-with_low.ensures, c.with_count-over.ensures, c.with_count-parked.ensures)
     (rw (c.with_count-moved.ensures, c.empty.ensures)
-    (simp (cut_append, append_assoc) (uncut (report_text c.args.depot.moved c.args.depot.parked c.args.depot.over c.args.low c.args.high) (report_room _ _ _ _ _))))
+    (simp (cut_append, append_assoc) (uncut (report_text c.args.depot.moved c.args.depot.parked c.args.depot.over c.args.bracket.low c.args.bracket.high) (report_room _ _ _ _ _))))

@@ -8,4 +8,4 @@ use Rattle.reporting.proofs.lines.with_count.Goals as goal
 pub returns : goal.returns
 unfolding ascii line_of
 returns c =
-    rw (c.with_bytes-2.ensures, c.with_decimal.ensures, c.with_bytes.ensures) (simp (cut_append, append_assoc))
+    rw (c.with_bytes-2.ensures, c.with_decimal.ensures, c.from.ensures, c.with_bytes.ensures) (simp (cut_append, append_assoc))

@@ -1,4 +1,3 @@
--- The laws of the program: what a read brought (Got), what is kept of the blocks that were taken (Awaited), and the blocks in the buffer (Read).
-pub mod Got
+-- The laws of the program: what is kept of the blocks that were taken (Awaited), and the blocks in the buffer (Read).
 pub mod Awaited
 pub mod Read

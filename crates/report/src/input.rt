@@ -1,100 +1,76 @@
 // Reads standard input.
-ghost use Rattle.std.specs.Prelude.{◌≡◌, ◌^◌, ◌<◌, ◌≤◌, pos, negsuc, length, IfOk, IfErr};
-ghost use Rattle.io.specs.Counts.{IsPrefixLen};
-ghost use Rattle.report.specs.Program.{got_of, bytes_in, bytes_read, Decides};
+ghost use Rattle.std.specs.Prelude.{◌≡◌, ◌≤◌, eqb, cond, length, Ok, Some, None, IfOk, IfErr, IsErr};
+ghost use Rattle.report.specs.Program.{bytes_read, Decides};
 
-use super::awaited::{Awaited, Following};
+use super::awaited::Awaited;
 use blocks::judgement::BLOCK_BYTES;
 use std::io::{Read, Result, Stdin};
 
-// How many bytes were read: all of the input, or as many as decide what is printed; or that a read failed.
+// How many bytes were read: all of the input, or as many as decide what is printed.
 #[derive(Clone, Copy)]
 pub enum Input {
     Ended(usize),
     Decided(usize),
-    Failed,
 }
 
-// How many bytes of a piece were read, fewer than were asked for only at the end of the input; or that a
-// read failed.
-#[derive(Clone, Copy)]
-enum Piece {
-    Read(usize),
-    Failed,
-}
-
-// What one read brought: so many bytes, the end of the input, or a failure.
-#[derive(Clone, Copy)]
-enum Got {
-    Bytes(usize),
-    End,
-    Failed,
+impl Input {
+    #[tactic(auto, unfolding(crate::specs::Program::bytes_read))]
+    pub fn count(self) -> usize
+        ensures { result ≡ bytes_read self }
+    {
+        match self {
+            Input::Ended(count) | Input::Decided(count) => count,
+        }
+    }
 }
 
 // Reads block by block into a buffer with room for 206 of them, up to the end of the input, or up to and
 // with the first block that a depot does not take, which is one of these 206. Whatever follows that block
 // changes nothing.
-pub(crate) fn read_blocks(stdin: &mut Stdin, buffer: &mut [u8]) -> Input
+// Kept: a `while`. The count is what was read, and behind `chunks_mut` a proof knows only how long the
+// buffer is, and none of its bytes.
+pub(crate) fn read_blocks(stdin: &mut Stdin, buffer: &mut [u8]) -> Result<Input>
     requires { 105472 ≤ length buffer.old }
-    ensures { IsPrefixLen (bytes_read result) buffer.new × Decides result buffer.new }
+    ensures within { IfOk result (λ input. bytes_read input ≤ length buffer.new) }
+    ensures decides { IfOk result (λ input. Decides input buffer.new) }
 {
     let mut awaited = Awaited::first();
     let mut count = 0;
     while buffer.len() - count >= BLOCK_BYTES {
-        let Piece::Read(size) = read(stdin, &mut buffer[count..count + BLOCK_BYTES]) else {
-            return Input::Failed;
-        };
+        let size = read(stdin, &mut buffer[count..count + BLOCK_BYTES])?;
         count += size;
         if size < BLOCK_BYTES {
-            return Input::Ended(count);
+            return Ok(Input::Ended(count));
         }
-        let Following::Next(next) = awaited.after(&buffer[count - BLOCK_BYTES..count]) else {
-            return Input::Decided(count);
+        let Ok(next) = awaited.after(&buffer[count - BLOCK_BYTES..count]) else {
+            return Ok(Input::Decided(count));
         };
         awaited = next;
     }
-    Input::Decided(count)
+    Ok(Input::Decided(count))
 }
 
-// Fills the buffer from its start, until it is full or the input ends. A read that brings less than was
-// asked for is followed by another.
-fn read(stdin: &mut Stdin, buffer: &mut [u8]) -> Piece
-    ensures { IsPrefixLen (bytes_in result) buffer.new }
+// Fills the buffer from its start, until it is full or the input ends: fewer bytes than have room are read
+// only at the end. A read that brings less than was asked for is followed by another.
+fn read(stdin: &mut Stdin, buffer: &mut [u8]) -> Result<usize>
+    ensures { IfOk result (λ count. count ≤ length buffer.new) }
 {
     let mut from = 0;
     while from < buffer.len() {
-        let answer = answer_of(stdin.read(&mut buffer[from..]));
-        match got_of(answer, &buffer[from..]) {
-            Got::Bytes(count) => from += count,
-            Got::End => return Piece::Read(from),
-            Got::Failed => return Piece::Failed,
-        }
+        let Some(count) = some_bytes(stdin.read(&mut buffer[from..]))? else {
+            break;
+        };
+        from += count;
     }
-    Piece::Read(from)
+    Ok(from)
 }
 
-// What a read brought, as C's `read` answers it: the number of bytes, or −1 where it failed.
-fn answer_of(brought: Result<usize>) -> isize
-    requires { IfOk brought (λ count. count < 2 ^ 63) }
-    ensures came { IfOk brought (λ count. result ≡ pos count) }
-    ensures failed { IfErr brought (λ _. result ≡ negsuc 0) }
+// What a read brought: so many bytes, or none at the end of the input. A read that failed stays a failure,
+// and is never taken for the end.
+fn some_bytes(brought: Result<usize>) -> Result<Option<usize>>
+    ensures came { IfOk brought (λ count. result ≡ Ok (cond (eqb count 0) None (Some count))) }
+    ensures failed { IfErr brought (λ _. IsErr result) }
 {
-    match brought {
-        Ok(count) => count as isize,
-        Err(_) => -1,
-    }
-}
-
-// What a read with this room answered: a failure is never taken for the end of the input.
-fn got_of(answer: isize, room: &[u8]) -> Got
-    ensures { result ≡ got_of answer (length room.now) }
-{
-    if answer < 0 {
-        return Got::Failed;
-    }
-    let count = io::count(answer, room);
-    if count == 0 {
-        return Got::End;
-    }
-    Got::Bytes(count)
+    let count = brought?;
+    Ok(if count == 0 { None } else { Some(count) })
 }

@@ -6,19 +6,18 @@ mod awaited;
 mod input;
 mod output;
 
-use input::Input;
+use blocks::judgement::BLOCK_BYTES;
 use reporting::report::report_of;
 
-// The bytes of 206 blocks, 206 × 512: a depot takes 205 at most, so one of them is refused, and what
-// follows that one changes nothing.
-const DECIDING: usize = 105_472;
+// The bytes of 206 blocks: a depot takes 205 at most, so one of them is refused, and what follows that one
+// changes nothing.
+const DECIDING: usize = 206 * BLOCK_BYTES;
 
 fn main(rt: HostRuntime) {
     let mut stdin = rt.stdin();
     let mut buffer = [0u8; DECIDING];
     match input::read_blocks(&mut stdin, &mut buffer) {
-        Input::Ended(count) => output::print(report_of(&buffer[..count])),
-        Input::Decided(count) => output::print(report_of(&buffer[..count])),
-        Input::Failed => output::complain(b"report: cannot read standard input\n"),
+        Ok(input) => output::print(report_of(&buffer[..input.count()])),
+        Err(_) => output::complain(b"report: cannot read standard input\n"),
     }
 }

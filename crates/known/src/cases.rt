@@ -1,48 +1,47 @@
 // The tokens that a line begins with, and what runs its case.
-use super::formats::{Entry, Format};
-use super::operations::Operation;
-use super::{answer, formats, operations, rounding, wanted};
+use super::{formats, operations, rounding, wanted};
+use arithmetic::operation::{add, multiply, subtract};
+use codes::binary64::Binary64;
+use codes::double_extended::DoubleExtended;
+use division::quotient::divide;
 use lines::line::Line;
+use lines::out;
 
-// Prints the answer to a line. What runs a case says whether the line begins with its token.
-pub fn run(text: &Line) {
-    if run_operations(text) {
-        return;
+// Prints the answer to a line.
+pub fn run(line: Line) {
+    if answer(line).is_none() {
+        out::line("not a case");
     }
-    if run_codes(text) {
-        return;
-    }
-    answer::print_no_case();
 }
 
-fn run_operations(text: &Line) -> bool {
-    if operations::run(text, b"add", Operation::Add) {
-        return true;
+// Prints the answer to a case, if the line is one.
+fn answer(line: Line) -> Option<()> {
+    if let Some(case) = line.past(b"add") {
+        return operations::answer(case, add);
     }
-    if operations::run(text, b"sub", Operation::Subtract) {
-        return true;
+    if let Some(case) = line.past(b"sub") {
+        return operations::answer(case, subtract);
     }
-    if operations::run(text, b"mul", Operation::Multiply) {
-        return true;
+    if let Some(case) = line.past(b"mul") {
+        return operations::answer(case, multiply);
     }
-    if operations::run(text, b"div", Operation::Divide) {
-        return true;
+    if let Some(case) = line.past(b"div") {
+        return operations::answer(case, divide);
     }
-    if rounding::run(text, b"round") {
-        return true;
+    if let Some(case) = line.past(b"round") {
+        return rounding::answer(case);
     }
-    wanted::run(text, b"step")
-}
-
-fn run_codes(text: &Line) -> bool {
-    if formats::run(text, b"read10 ", Entry::Read(Format::DoubleExtended)) {
-        return true;
+    if let Some(case) = line.past(b"step") {
+        return wanted::answer(case);
     }
-    if formats::run(text, b"read8 ", Entry::Read(Format::Binary64)) {
-        return true;
+    if let Some(case) = line.past(b"read10 ") {
+        return formats::answer_read::<DoubleExtended>(case);
     }
-    if formats::run(text, b"write10 ", Entry::Write(Format::DoubleExtended)) {
-        return true;
+    if let Some(case) = line.past(b"read8 ") {
+        return formats::answer_read::<Binary64>(case);
     }
-    formats::run(text, b"write8 ", Entry::Write(Format::Binary64))
+    if let Some(case) = line.past(b"write10 ") {
+        return formats::answer_write::<DoubleExtended>(case);
+    }
+    formats::answer_write::<Binary64>(line.past(b"write8 ")?)
 }

@@ -1,8 +1,0 @@
--- `known::main` is safe and ends: the measure is how many turns are left.
-use Rattle.known.proofs.main.Given as goal
-
-abbrev pub invariant-loop-turns : goal.invariant-loop-turns
-invariant-loop-turns l = Unit
-
-abbrev pub decreases-loop-turns : goal.decreases-loop-turns
-decreases-loop-turns l = l.turns

@@ -1,7 +1,7 @@
 -- The definitions of `export`, computed: the bytes of some numbers, and bytes that are no number.
 use mathlib.Core.Bool.{true, false}
 use mathlib.Core.List.{List, [], ◌∷◌, ◌++◌}
-use mathlib.Core.Option.{none, some}
+use Rattle.std.specs.Prelude.{Some, None}
 use mathlib.Core.Path.{◌≡◌, refl}
 use Prim.Native.Nat.{ℕ}
 use lib.IntN.{pos, negsuc}
@@ -20,10 +20,10 @@ pub known :
     × (layout_of (Finite true (pos 0) 0x8000000000000000) ≡ parts 128 (0 ∷ 0 ∷ 0 ∷ 0 ∷ []) (2 ∷ 0 ∷ 0 ∷ 0 ∷ []))
     × (layout_of (Finite false (negsuc 0) 0x8000000000000000) ≡ parts 128 (255 ∷ 255 ∷ 255 ∷ 255 ∷ []) (1 ∷ 0 ∷ 0 ∷ 0 ∷ []))
     × (layout_of Zero ≡ replicate 16 0)
-    × (number_in (parts 128 (255 ∷ 255 ∷ 255 ∷ 255 ∷ []) (1 ∷ 0 ∷ 0 ∷ 0 ∷ [])) ≡ some (Finite false (negsuc 0) 0x8000000000000000))
+    × (number_in (parts 128 (255 ∷ 255 ∷ 255 ∷ 255 ∷ []) (1 ∷ 0 ∷ 0 ∷ 0 ∷ [])) ≡ Some (Finite false (negsuc 0) 0x8000000000000000))
     -- a kind of 3, a byte behind the kind, and a zero with a significand are no numbers
-    × (number_in (parts 128 (0 ∷ 0 ∷ 0 ∷ 0 ∷ []) (3 ∷ 0 ∷ 0 ∷ 0 ∷ [])) ≡ none)
-    × (number_in (parts 128 (0 ∷ 0 ∷ 0 ∷ 0 ∷ []) (1 ∷ 1 ∷ 0 ∷ 0 ∷ [])) ≡ none)
-    × (number_in (parts 128 (0 ∷ 0 ∷ 0 ∷ 0 ∷ []) (0 ∷ 0 ∷ 0 ∷ 0 ∷ [])) ≡ none)
+    × (number_in (parts 128 (0 ∷ 0 ∷ 0 ∷ 0 ∷ []) (3 ∷ 0 ∷ 0 ∷ 0 ∷ [])) ≡ None)
+    × (number_in (parts 128 (0 ∷ 0 ∷ 0 ∷ 0 ∷ []) (1 ∷ 1 ∷ 0 ∷ 0 ∷ [])) ≡ None)
+    × (number_in (parts 128 (0 ∷ 0 ∷ 0 ∷ 0 ∷ []) (0 ∷ 0 ∷ 0 ∷ 0 ∷ [])) ≡ None)
 unfolding layout_of bytes_of word_of number_in number_of exponent_in little_endian
 known = (refl, refl, refl, refl, refl, refl, refl, refl)

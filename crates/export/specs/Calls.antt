@@ -1,6 +1,5 @@
 -- What a call of an exported function answers and leaves. One definition serves all four; it takes what the operation answers for two numbers.
-use Rattle.std.specs.Prelude.{Bool, ◌&&◌, cond, List, ℕ, eqb, length, ℤ, pos, neg_ℤ}
-use Rattle.std.proofs.Math.Option.{Option, none, some}
+use Rattle.std.specs.Prelude.{Bool, ◌&&◌, cond, List, ℕ, eqb, length, ℤ, pos, neg_ℤ, Option, None, Some}
 use Rattle.numbers.specs.Accuracy.{Marked, marked_as, refused_by}
 use Rattle.numbers.specs.declared.answer.Accuracy.{Accuracy}
 use Rattle.numbers.specs.declared.answer.Accuracy.TheVariants as accuracy
@@ -31,9 +30,9 @@ left_by (refused_by row) old was = call row old was
 
 -- What two operands leave, by their operation: 64 where one of them is no number.
 unfoldable pub operated : (Number → Number → Marked) → Option Number → Option Number → List ℕ → ℤ → Call
-operated operation (some x) (some y) old was = left_by (operation x y) old was
-operated operation (some x) none old was = call 64 old was
-operated operation none y old was = call 64 old was
+operated operation (Some x) (Some y) old was = left_by (operation x y) old was
+operated operation (Some x) None old was = call 64 old was
+operated operation None y old was = call 64 old was
 
 -- are there sixteen bytes?
 unfoldable pub is_sixteen : ℕ → Bool

@@ -1,7 +1,6 @@
 -- A number in sixteen bytes: eight of the significand, four of the exponent, four of the kind, the lowest byte first in each. So byte 12 is the
 -- kind, and the three behind it are zero.
-use Rattle.std.specs.Prelude.{Bool, true, ◌&&◌, cond, List, ◌++◌, ℕ, suc, ◌-◌, ◌^◌, ltb, eqb, ℤ, pos, negsuc, neg_ℤ, take, drop}
-use Rattle.std.proofs.Math.Option.{Option, none, some}
+use Rattle.std.specs.Prelude.{Bool, true, ◌&&◌, cond, List, ◌++◌, ℕ, suc, ◌-◌, ◌^◌, ltb, eqb, ℤ, pos, negsuc, neg_ℤ, take, drop, Option, None, Some}
 use Rattle.std.specs.Float.Ieee.{minus}
 use Rattle.little_endian.specs.Bytes.{little_endian, bytes_of}
 use Rattle.numbers.specs.Number.{is_between}
@@ -29,9 +28,9 @@ layout_of (Finite negative e S) = bytes_of 8 S ++ (bytes_of 4 (word_of e) ++ byt
 -- The number of a kind, the word of an exponent and a significand. Kind 0 is zero, and nothing else is set; a kind above 2 is no number.
 unfoldable pub number_of : ℕ → ℕ → ℕ → Option Number
 number_of kind w S =
-    cond (ltb 2 kind) none
-    (cond (ltb 0 kind) (some (Finite (eqb kind 2) (exponent_in w) S))
-    (cond (eqb S 0 && eqb w 0) (some Zero) none))
+    cond (ltb 2 kind) None
+    (cond (ltb 0 kind) (Some (Finite (eqb kind 2) (exponent_in w) S))
+    (cond (eqb S 0 && eqb w 0) (Some Zero) None))
 
 -- the number in sixteen bytes, if they hold one
 unfoldable pub number_in : List ℕ → Option Number

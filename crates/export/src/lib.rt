@@ -18,7 +18,7 @@ use division::quotient;
 mod call;
 mod layout;
 
-use call::{NO_NUMBER, Operands, WRONG_LENGTH, leave, operands_in, outcome_of, quotient_outcome};
+use call::called;
 
 // a + b.
 #[unsafe(no_mangle)]
@@ -32,18 +32,13 @@ pub extern "C" fn navehuro_add(
 ) -> u32
     ensures { call result res.new accuracy.new ≡ call_of (λ x y. marked (sum (value x) (value y)) (sum_of x y mode precision)) a.now b.now res.old accuracy.old }
 {
-    let operands = operands_in(a, b, res.len());
-    match operands {
-        Operands::Numbers(x, y) => {
-            leave(
-                outcome_of(operation::add(x, y, mode, precision)),
-                res,
-                accuracy,
-            )
-        }
-        Operands::WrongLength => WRONG_LENGTH,
-        Operands::NoNumber => NO_NUMBER,
-    }
+    called(
+        a,
+        b,
+        res,
+        accuracy,
+        |x, y| operation::add(x, y, mode, precision),
+    )
 }
 
 // a − b.
@@ -58,18 +53,13 @@ pub extern "C" fn navehuro_subtract(
 ) -> u32
     ensures { call result res.new accuracy.new ≡ call_of (λ x y. marked (difference (value x) (value y)) (difference_of x y mode precision)) a.now b.now res.old accuracy.old }
 {
-    let operands = operands_in(a, b, res.len());
-    match operands {
-        Operands::Numbers(x, y) => {
-            leave(
-                outcome_of(operation::subtract(x, y, mode, precision)),
-                res,
-                accuracy,
-            )
-        }
-        Operands::WrongLength => WRONG_LENGTH,
-        Operands::NoNumber => NO_NUMBER,
-    }
+    called(
+        a,
+        b,
+        res,
+        accuracy,
+        |x, y| operation::subtract(x, y, mode, precision),
+    )
 }
 
 // a × b.
@@ -84,18 +74,13 @@ pub extern "C" fn navehuro_multiply(
 ) -> u32
     ensures { call result res.new accuracy.new ≡ call_of (λ x y. marked (product (value x) (value y)) (product_of x y mode precision)) a.now b.now res.old accuracy.old }
 {
-    let operands = operands_in(a, b, res.len());
-    match operands {
-        Operands::Numbers(x, y) => {
-            leave(
-                outcome_of(operation::multiply(x, y, mode, precision)),
-                res,
-                accuracy,
-            )
-        }
-        Operands::WrongLength => WRONG_LENGTH,
-        Operands::NoNumber => NO_NUMBER,
-    }
+    called(
+        a,
+        b,
+        res,
+        accuracy,
+        |x, y| operation::multiply(x, y, mode, precision),
+    )
 }
 
 // a / b.
@@ -110,16 +95,11 @@ pub extern "C" fn navehuro_divide(
 ) -> u32
     ensures { call result res.new accuracy.new ≡ call_of (λ x y. marked (quotient (value x) (value y)) (quotient_of x y mode precision)) a.now b.now res.old accuracy.old }
 {
-    let operands = operands_in(a, b, res.len());
-    match operands {
-        Operands::Numbers(x, y) => {
-            leave(
-                quotient_outcome(quotient::divide(x, y, mode, precision)),
-                res,
-                accuracy,
-            )
-        }
-        Operands::WrongLength => WRONG_LENGTH,
-        Operands::NoNumber => NO_NUMBER,
-    }
+    called(
+        a,
+        b,
+        res,
+        accuracy,
+        |x, y| quotient::divide(x, y, mode, precision),
+    )
 }

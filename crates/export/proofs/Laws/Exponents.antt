@@ -1,6 +1,6 @@
 -- Exponents as words of 32 bits: each way undoes the other. And kinds are small.
 use mathlib.Core.Bool.{Bool, true, false}
-use mathlib.Core.Path.{◌≡◌, ap, ◌∙◌}
+use mathlib.Core.Path.{◌≡◌, refl, ap, ◌∙◌}
 use Prim.Native.Nat.{ℕ, suc, ◌-◌, ◌^◌, ◌≤◌, ◌<◌}
 use native.Mathlib.Decide.{dec_le}
 use native.Mathlib.Nat.{lt_of_not-le}
@@ -8,6 +8,8 @@ use native.Mathlib.Omega.{arith}
 use lib.Dec.{lit≤}
 use lib.IntN.{ℤ, pos, negsuc}
 use lib.Signed.{mag}
+use mir.Syntax.{w32}
+use mir.Val.{to_z, of_z}
 use borrow.Author.Tests.{lt-ltb, le-ltb, lt-leb}
 use Rattle.export.specs.Layout.{word_of, exponent_in, kind_of}
 
@@ -40,6 +42,19 @@ pub word_below : (e : ℤ) → mag e < 2 ^ 31 → word_of e < 2 ^ 32
 unfolding word_of
 word_below (pos n) h = omega arith
 word_below (negsuc n) h = omega arith
+
+-- the machine's casts between the two
+pub cast_word : (e : ℤ) → of_z w32 e ≡ word_of e
+unfolding word_of
+cast_word (pos n) = refl
+cast_word (negsuc n) = refl
+
+pub cast_exponent : (w : ℕ) → w < 2 ^ 32 → to_z w32 w ≡ exponent_in w
+cast_exponent w h = go (dec_le (2 ^ 31) w)
+  where
+    go : Dec (2 ^ 31 ≤ w) → to_z w32 w ≡ exponent_in w
+    go (yes k) = rw (exponent_high w k h, le-ltb w (2 ^ 31) k)
+    go (no n) = rw (exponent_low w (lt_of_not-le n), lt-ltb w (2 ^ 31) (lt_of_not-le n))
 
 pub kind_most : (negative : Bool) → kind_of negative ≤ 2
 kind_most true = lit≤ tt

@@ -2,7 +2,7 @@
 use mathlib.Core.Path.{◌≡◌, refl, sym, ◌∙◌}
 use mathlib.Core.Bool.{Bool, true, false, ◌&&◌, cond, and-eq-true_iff}
 use mathlib.Core.List.{List, ◌++◌}
-use mathlib.Core.Option.{none, some}
+use Rattle.std.specs.Prelude.{Some, None}
 use Prim.Native.Nat.{ℕ, ◌^◌, ◌≤◌, ◌<◌}
 use native.Mathlib.Omega.{arith}
 use lib.Dec.{lit≤, ltb, leb, eqb}
@@ -41,7 +41,7 @@ unfolding is_between
 exponent_bits_are (pos n) h = omega (arith, leb-true n 0x7fffffff h)
 exponent_bits_are (negsuc n) h = omega (arith, leb-true n 0x7fffffff ((and-eq-true_iff (leb n 0x7fffffff) true).0 h).0)
 
-kind_number : (negative : Bool) (w S : ℕ) → number_of (kind_of negative) w S ≡ some (Finite negative (exponent_in w) S)
+kind_number : (negative : Bool) (w S : ℕ) → number_of (kind_of negative) w S ≡ Some (Finite negative (exponent_in w) S)
 unfolding number_of
 kind_number true w S = refl
 kind_number false w S = refl
@@ -51,11 +51,11 @@ fields : (negative : Bool) (e : ℤ) (S : ℕ)
 unfolding number_in layout_of bytes_of
 fields negative e S = refl
 
-zero_read : number_in (layout_of Zero) ≡ some Zero
+zero_read : number_in (layout_of Zero) ≡ Some Zero
 unfolding number_in layout_of bytes_of little_endian number_of
 zero_read = refl
 
-pub layout_read : (x : Number) → has_layout x ≡ true → number_in (layout_of x) ≡ some x
+pub layout_read : (x : Number) → has_layout x ≡ true → number_in (layout_of x) ≡ Some x
 unfolding has_layout
 layout_read Zero h = zero_read
 layout_read (Finite negative e S) h =
@@ -76,12 +76,12 @@ kind_read kind least most = go (eqb kind 2) refl
     go false e = let other = eqb-false kind 2 e in omega arith
 
 -- the bytes of the fields that make a number are those of the number
-number_fields : (kind w S : ℕ) (x : Number) → w < 2 ^ 32 → number_of kind w S ≡ some x → layout_of x ≡ bytes_of 8 S ++ (bytes_of 4 w ++ bytes_of 4 kind)
+number_fields : (kind w S : ℕ) (x : Number) → w < 2 ^ 32 → number_of kind w S ≡ Some x → layout_of x ≡ bytes_of 8 S ++ (bytes_of 4 w ++ bytes_of 4 kind)
 unfolding number_of layout_of bytes_of
 number_fields kind w S x below h = go (ltb 2 kind) (ltb 0 kind) (eqb S 0) (eqb w 0) refl refl refl refl h
   where
     go : (t u v z : Bool) → ltb 2 kind ≡ t → ltb 0 kind ≡ u → eqb S 0 ≡ v → eqb w 0 ≡ z
-        → cond t none (cond u (some (Finite (eqb kind 2) (exponent_in w) S)) (cond (v && z) (some Zero) none)) ≡ some x
+        → cond t None (cond u (Some (Finite (eqb kind 2) (exponent_in w) S)) (cond (v && z) (Some Zero) None)) ≡ Some x
         → layout_of x ≡ bytes_of 8 S ++ (bytes_of 4 w ++ bytes_of 4 kind)
     go true u v z et eu ev ez e = never cc
     go false true v z et eu ev ez e =
@@ -94,7 +94,7 @@ number_fields kind w S x below h = go (ltb 2 kind) (ltb 0 kind) (eqb S 0) (eqb w
     go false false true false et eu ev ez e = never cc
     go false false false z et eu ev ez e = never cc
 
-pub read_layout : (bytes : List ℕ) (x : Number) → length bytes ≡ 16 → IsBytes bytes → number_in bytes ≡ some x → layout_of x ≡ bytes
+pub read_layout : (bytes : List ℕ) (x : Number) → length bytes ≡ 16 → IsBytes bytes → number_in bytes ≡ Some x → layout_of x ≡ bytes
 unfolding number_in
 read_layout bytes x count are h =
     let first = rw (first_length 8 16 (lit≤ tt) bytes count) at (bytes_little_endian (take 8 bytes) (bytes_take 8 bytes are)) in

@@ -6,7 +6,7 @@ use native.Mathlib.Nat.{le_of_eq, div-div-eq-div-mul}
 use native.Mathlib.Omega.{arith}
 use lib.Dec.{lit≤}
 use lib.ListN.{length, get_or, take, drop, length-append, drop_of_length-le}
-use lib.Seq.{drop-cons, drop-drop, sets, sets-eq}
+use lib.Seq.{drop-cons, drop-drop}
 use Rattle.little_endian.specs.Bytes.{little_endian, bytes_of, IsBytes}
 use Rattle.little_endian.proofs.Laws.Bytes.{little_endian_below, little_endian_append, little_endian_bytes, bytes_little_endian, bytes_length, bytes_are, bytes_take, bytes_drop, joined_bytes, rest_all, first_length, rest_length, whole}
 
@@ -45,16 +45,9 @@ places w =
     w % 256 ∷ w / 0x100 % 256 ∷ w / 0x10000 % 256 ∷ w / 0x1000000 % 256 ∷ w / 0x100000000 % 256 ∷ w / 0x10000000000 % 256
     ∷ w / 0x1000000000000 % 256 ∷ w / 0x100000000000000 % 256 ∷ []
 
-eight_places : (w : ℕ) → bytes_of 8 w ≡ places w
+pub eight_places : (w : ℕ) → bytes_of 8 w ≡ places w
 unfolding bytes_of
 eight_places w = simp div-div-eq-div-mul
-
--- eight bytes, each stored
-pub eight_written : (bytes : List ℕ) (w : ℕ) → length bytes ≡ 8 → sets bytes 0 (places w) ≡ bytes_of 8 w
-eight_written bytes w h =
-    sets-eq (places w) bytes 0 (le_of_eq (sym h))
-    ∙ ap (λ (rest : List ℕ). places w ++ rest) (drop_of_length-le bytes (le_of_eq h))
-    ∙ sym (eight_places w)
 
 -- ---- two words in sixteen bytes
 

@@ -1,6 +1,6 @@
 -- `export::layout::words_of` meets its contract: the kind stands above the exponent in the upper word.
 use borrow.Author.Rules.{rules}
-use mathlib.Core.Path.{◌≡◌}
+use mathlib.Core.Path.{◌≡◌, ◌∙◌}
 use mathlib.Core.Bool.{Bool}
 use mathlib.Core.List.{◌++◌}
 use Prim.Native.Nat.{ℕ, ◌+◌, ◌*◌, ◌^◌}
@@ -13,7 +13,7 @@ use Rattle.little_endian.specs.Bytes.{bytes_of}
 use Rattle.numbers.specs.declared.number.Number.{Number}
 use Rattle.numbers.specs.declared.number.Number.TheVariants.{Finite}
 use Rattle.export.specs.Layout.{word_of, kind_of, layout_of}
-use Rattle.export.proofs.Laws.Exponents.{word_below, kind_most}
+use Rattle.export.proofs.Laws.Exponents.{cast_word, word_below, kind_most}
 use Rattle.export.proofs.Laws.Words.{upper_bytes}
 use Rattle.export.proofs.layout.words_of.Goals as goal
 
@@ -38,4 +38,4 @@ returns-in-Zero c = rw c.in-Zero.is
 pub returns-in-Finite : goal.returns-in-Finite
 returns-in-Finite c =
     let fits : SFits w32 c.in-Finite.exponent = search rules in
-    finite_words _ _ _ _ _ _ c.in-Finite.is fits c.kind_of.ensures c.word_of.ensures
+    finite_words _ _ _ _ _ _ c.in-Finite.is fits c.kind_of.ensures (c.from.ensures ∙ c.cast_unsigned.ensures ∙ cast_word _)

@@ -2,11 +2,10 @@
 #![tactic(auto)]
 
 ghost use Rattle.std.specs.Prelude.{◌≡◌};
-ghost use Rattle.writing.specs.Written.{block_writing_row, block_writing_of};
-ghost use Rattle.export_blocks.specs.Calls.{row_of_number, call};
+ghost use Rattle.writing.specs.Written.{block_writing_of};
+ghost use Rattle.export_blocks.specs.Calls.{call};
 
 use writing::writer;
-use writing::writer::BlockWriting;
 
 // Answers 0 and has written the blocks of the vans, five numbers each, in this edition to the front of the
 // output; or answers the row that refuses, 15, 18, 19, 16 or 20, and has left the output as it was.
@@ -14,19 +13,8 @@ use writing::writer::BlockWriting;
 pub extern "C" fn navehuro_write_blocks(edition: u32, fields: &[u32], output: &mut [u8]) -> u32
     ensures { call result output.new ≡ block_writing_of edition fields.now output.old }
 {
-    number_of(writer::write_blocks(edition, fields, output))
-}
-
-// The number that C gets of an answer.
-fn number_of(answer: BlockWriting) -> u32
-    ensures { row_of_number result ≡ block_writing_row answer }
-{
-    match answer {
-        BlockWriting::Written => 0,
-        BlockWriting::UnknownEdition => 15,
-        BlockWriting::PartialVan => 18,
-        BlockWriting::TooManyVans => 19,
-        BlockWriting::WrongRecord => 16,
-        BlockWriting::OutputTooShort => 20,
+    match writer::write_blocks(edition, fields, output) {
+        Ok(()) => 0,
+        Err(refusal) => refusal.row(),
     }
 }

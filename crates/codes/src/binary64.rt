@@ -1,10 +1,10 @@
 // Binary64: 8 bytes, the lowest first, that hold 52 fraction bits, 11 exponent bits and the sign bit.
 // The leading one of a normal number is not stored.
 ghost use Rattle.std.specs.Prelude.{◌≡◌};
-ghost use Rattle.codes.specs.Codes.{binary64, leading_one};
+ghost use Rattle.codes.specs.Codes.{binary64};
 ghost use Rattle.codes.specs.Formats.{binary64_format};
 
-use super::code::{Code, Format};
+use super::code::Format;
 use super::coded::Coded;
 use super::layout::Layout;
 
@@ -14,17 +14,8 @@ pub struct Binary64 {
     pub bits: u64,
 }
 
-// How many fractions and how many exponent fields there are: 2^52 and 2^11.
+// How many fractions there are: 2^52.
 const FRACTIONS: u64 = 0x10_0000_0000_0000;
-
-const FIELDS: u64 = 2_048;
-
-// The leading one of a normal number.
-fn leading_one(field: u64) -> u64
-    ensures { result ≡ leading_one binary64 field }
-{
-    if field > 0 { FRACTIONS } else { 0 }
-}
 
 impl Binary64 {
     // Bytes of a code, bits of a significand with its leading one, what is added to an exponent, and
@@ -75,21 +66,15 @@ impl Layout for Binary64 {
         little_endian::write(bytes, self.bits);
     }
 
-    // The code with these parts.
-    fn from_parts(code: Code) -> Binary64 {
-        let upper = u64::from(code.negative) * FIELDS + u64::from(code.field);
-        Self::from_bits(upper * FRACTIONS + code.significand % FRACTIONS)
+    fn from_upper(upper: u32, stored: u64) -> Binary64 {
+        Self::from_bits(u64::from(upper) * FRACTIONS + stored)
     }
 
-    // The parts of the code.
-    fn parts(self) -> Code {
-        let fraction = self.bits % FRACTIONS;
-        let upper = self.bits / FRACTIONS;
-        let field = upper % FIELDS;
-        Code {
-            negative: upper / FIELDS > 0,
-            field: field as u32,
-            significand: fraction + leading_one(field),
-        }
+    fn upper(self) -> u32 {
+        (self.bits / FRACTIONS) as u32
+    }
+
+    fn stored(self) -> u64 {
+        self.bits % FRACTIONS
     }
 }

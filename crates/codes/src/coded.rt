@@ -6,6 +6,7 @@ ghost use Rattle.codes.specs.Codes.{number_of, reading_of, writing, writing_of};
 use super::decode::fit_number;
 use super::layout::Layout;
 use super::pack::pack;
+use super::parts::from_parts;
 use numbers::number::Number;
 use refusals::Refusal;
 
@@ -33,7 +34,7 @@ pub trait Coded: Layout {
         ensures { writing result bytes.new ≡ writing_of Self.FORMAT x bytes.old }
     {
         let code = pack::<Self>(x, bytes.len())?;
-        Self::from_parts(code).write_bytes(bytes);
+        from_parts::<Self>(code).write_bytes(bytes);
         Ok(())
     }
 }

@@ -6,6 +6,7 @@ ghost use Rattle.codes.specs.Layout.{is_normalizable};
 
 use super::code::Code;
 use super::layout::Layout;
+use super::parts::parts;
 use numbers::number::Number;
 use refusals::Refusal;
 
@@ -25,7 +26,7 @@ fn decode<F: Layout>(code: F) -> Result<Number, Refusal>
     ensures { answer_outcome result ≡ judged_code F.FORMAT (split F.FORMAT (F.bits code)) (decoded F.FORMAT (split F.FORMAT (F.bits code))) }
 {
     let format = F::FORMAT;
-    let parts = code.parts();
+    let parts = parts(code);
     let field = parts.field;
     let all_ones = 2 * format.bias + 1;
     let canonical = is_canonical::<F>(parts);

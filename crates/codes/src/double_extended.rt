@@ -4,7 +4,7 @@ ghost use Rattle.std.specs.Prelude.{◌≡◌};
 ghost use Rattle.codes.specs.Codes.{double_extended, bits_of};
 ghost use Rattle.codes.specs.Formats.{double_extended_format};
 
-use super::code::{Code, Format};
+use super::code::Format;
 use super::coded::Coded;
 use super::layout::Layout;
 
@@ -15,10 +15,8 @@ pub struct DoubleExtended {
     pub significand: u64,
 }
 
-// How many exponent fields there are, and how many with a sign: 2^15 and 2^16.
-const FIELDS: u64 = 32_768;
-
-const SIGNED_FIELDS: u64 = 65_536;
+// How many values the bits above the significand have: 2^16.
+const UPPERS: u64 = 65_536;
 
 impl DoubleExtended {
     // Bytes of a code, bits of a significand, what is added to an exponent, and the exponents of the
@@ -64,30 +62,25 @@ impl Layout for DoubleExtended {
     fn from_bytes(bytes: &[u8]) -> DoubleExtended {
         let significand = little_endian::read(&bytes[..8]);
         let upper = little_endian::read(&bytes[8..]);
-        Self::from_bits((upper % SIGNED_FIELDS) as u16, significand)
+        Self::from_bits((upper % UPPERS) as u16, significand)
     }
 
     // Puts the code into ten bytes.
     #[tactic(auto, unfolding(crate::specs::Codes::double_extended))]
     fn write_bytes(self, bytes: &mut [u8]) {
         little_endian::write(&mut bytes[..8], self.significand);
-        little_endian::write(&mut bytes[8..], self.upper as u64);
+        little_endian::write(&mut bytes[8..], u64::from(self.upper));
     }
 
-    // The code with these parts.
-    fn from_parts(code: Code) -> DoubleExtended {
-        let upper = u64::from(code.negative) * FIELDS + u64::from(code.field);
-        Self::from_bits(upper as u16, code.significand)
+    fn from_upper(upper: u32, stored: u64) -> DoubleExtended {
+        Self::from_bits(upper as u16, stored)
     }
 
-    // The parts of the code.
-    fn parts(self) -> Code {
-        let upper = self.upper as u64;
-        let field = upper % FIELDS;
-        Code {
-            negative: upper / FIELDS > 0,
-            field: field as u32,
-            significand: self.significand,
-        }
+    fn upper(self) -> u32 {
+        u32::from(self.upper)
+    }
+
+    fn stored(self) -> u64 {
+        self.significand
     }
 }

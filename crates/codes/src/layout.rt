@@ -1,11 +1,11 @@
-// How a type holds the codes of its format: their bytes and their parts.
-ghost use Rattle.std.specs.Prelude.{◌≡◌, ℕ, length};
+// How a type holds the codes of its format: their bytes, and their bits above and below.
+ghost use Rattle.std.specs.Prelude.{◌≡◌, ℕ, ◌+◌, ◌*◌, ◌/◌, ◌%◌, ◌^◌, ◌<◌, length};
 ghost use Rattle.little_endian.specs.Bytes.{little_endian, bytes_of};
-ghost use Rattle.codes.specs.Codes.{split, join};
-ghost use Rattle.codes.specs.Layout.{IsFormat, IsCode};
+ghost use Rattle.codes.specs.Codes.{exponent_bits};
+ghost use Rattle.codes.specs.Layout.{IsFormat};
 ghost use Rattle.codes.specs.declared.code.Format.{Format};
 
-use super::code::{Code, Format};
+use super::code::Format;
 
 // A type whose values are the codes of one format.
 pub trait Layout: Copy {
@@ -27,14 +27,18 @@ pub trait Layout: Copy {
         requires { length bytes.old ≡ FORMAT.length }
         ensures { bytes.new ≡ bytes_of FORMAT.length (bits self) };
 
-    // The code with these parts.
-    fn from_parts(code: Code) -> Self
-        requires { IsCode FORMAT code }
-        ensures { bits result ≡ join FORMAT code };
+    // The code with this sign and field, `upper`, above these stored bits of a significand.
+    fn from_upper(upper: u32, stored: u64) -> Self
+        requires { (upper < 2 * 2 ^ exponent_bits FORMAT) × (stored < 2 ^ FORMAT.stored) }
+        ensures { bits result ≡ upper * 2 ^ FORMAT.stored + stored };
 
-    // The parts of the code.
-    fn parts(self) -> Code
-        ensures { result ≡ split FORMAT (bits self) };
+    // The sign and the field, which stand above the stored bits of the significand.
+    fn upper(self) -> u32
+        ensures { result ≡ bits self / 2 ^ FORMAT.stored };
+
+    // The stored bits of the significand.
+    fn stored(self) -> u64
+        ensures { result ≡ bits self % 2 ^ FORMAT.stored };
 
     // The constants have to do with each other as those of a format do.
     ghost formed: { IsFormat FORMAT };

@@ -9,3 +9,4 @@ mod decode;
 pub mod double_extended;
 mod layout;
 mod pack;
+mod parts;

@@ -3,18 +3,22 @@
 use mathlib.Core.Path.{◌≡◌, refl, ◌∙◌}
 use mathlib.Core.Bool.{Bool, true, false, ◌&&◌, cond}
 use Prim.Native.Nat.{ℕ, suc, ◌+◌, ◌-◌, ◌*◌, ◌%◌, ◌^◌, ◌<◌, suc-le-suc}
-use native.Mathlib.Nat.{add-zero, add-mod_right, lt_of_lt_of_le, mod-eq_of_lt, mod-eq-sub-mod, pow-succ'}
+use native.Mathlib.Nat.{add-zero, add-mod_right, lt_of_lt_of_le, mod-eq_of_lt, mod-eq-sub-mod, one-mul, pow-succ'}
 use native.Mathlib.Omega.{arith}
 use borrow.Author.Tests.{leb-true, leb-false, ltb-true, ltb-false}
 use lib.Arith.{digits_lt}
-use lib.Dec.{leb, ltb}
-use lib.Pow.{pow_mono}
+use lib.Dec.{leb, ltb, lit<}
+use lib.Pow.{pow_mono, shl_exact}
 use Rattle.std.specs.Int.{from_bool}
 use Rattle.numbers.proofs.Laws.Tests.{at_most_one}
 use Rattle.codes.specs.Codes.{exponent_bits, leading_one, sign_bit}
 use Rattle.codes.specs.Layout.{IsFormat, IsCode}
 use Rattle.codes.specs.declared.code.Code.{Code}
 use Rattle.codes.specs.declared.code.Format.{Format}
+
+-- a bit alone, as the machine moves it to its place
+pub one_bit : (j : ℕ) → j < 64 → 1 * 2 ^ j % 2 ^ 64 ≡ 2 ^ j
+one_bit j h = shl_exact 1 j 64 (lit< tt) (omega (arith, h)) ∙ one-mul (2 ^ j)
 
 module _ (f : Format) (formed : IsFormat f) where
   -- where the top bit is not stored, it stands above the stored ones

@@ -1,21 +1,20 @@
 -- `codes::decode::is_canonical` meets its contract: the top bit, as the machine makes it, is 2^(precision − 1).
-use mathlib.Core.Path.{◌≡◌, ◌∙◌}
+use mathlib.Core.Path.{◌≡◌}
 use mathlib.Core.Bool.{Bool, true, false, not, beq, and-false, and-true}
 use Prim.Native.Nat.{◌-◌, ◌*◌, ◌%◌, ◌^◌}
-use native.Mathlib.Nat.{one-mul}
 use native.Mathlib.Omega.{arith}
-use lib.Dec.{leb, ltb, lit<}
+use lib.Dec.{leb, ltb}
 use lib.Ieee.{unlike}
-use lib.Pow.{shl_exact}
 use borrow.Author.Tests.{eq-eqb, ne_eqb, not-true, not-false}
 use Rattle.codes.specs.Codes.{is_canonical}
 use Rattle.codes.specs.Layout.{IsFormat}
 use Rattle.codes.specs.declared.code.Code.{Code}
 use Rattle.codes.specs.declared.code.Format.{Format}
+use Rattle.codes.proofs.Laws.Leading.{one_bit}
 use Rattle.codes.proofs.decode.is_canonical.Goals as goal
 
 top_is : (f : Format) → IsFormat f → 1 * 2 ^ (f.precision - 1) % 2 ^ 64 ≡ 2 ^ (f.precision - 1)
-top_is f formed = shl_exact 1 (f.precision - 1) 64 (lit< tt) (omega (arith, formed.word_bits)) ∙ one-mul (2 ^ (f.precision - 1))
+top_is f formed = one_bit (f.precision - 1) (omega (arith, formed.some_bits, formed.word_bits))
 
 -- so what the test of the top bit says
 tested : (f : Format) (c : Code) (t : Bool) → IsFormat f → unlike (leb (1 * 2 ^ (f.precision - 1) % 2 ^ 64) c.significand) (ltb 0 c.field) ≡ t

@@ -1,5 +1,6 @@
 -- `codes::double_extended::DoubleExtended::write_bytes` meets its contract. The significand fills the first eight bytes, and `upper` the two that follow.
 use mathlib.Core.Path.{refl, sym}
+use native.Mathlib.Omega.{arith}
 use lib.Dec.{lit≤}
 use Rattle.little_endian.proofs.Laws.Bytes.{first_length, write_parts}
 use Rattle.codes.specs.Codes.{double_extended}
@@ -12,4 +13,5 @@ slice_bounds-write-end-2 c = sym (first_length 8 10 (lit≤ tt) c.args.bytes.now
 pub returns : goal.returns
 unfolding double_extended
 returns c =
-    write_parts 8 10 (lit≤ tt) c.args.bytes.now c.requires _ _ _ _ _ c.struct_known-1.given.1.0.fits refl c.write.ensures c.write-2.ensures
+    rw (← c.from.ensures)
+    (write_parts 8 10 (lit≤ tt) c.args.bytes.now c.requires _ _ _ _ _ (omega arith) refl c.write.ensures c.write-2.ensures)

@@ -69,17 +69,8 @@ returns-in_default c = sym (ap normalized c.in_default.is ∙ round_working Zero
 pub returns-then-significand-eq0 : goal.returns-then-significand-eq0
 returns-then-significand-eq0 c = none_left _ _ _ _ c.in-Finite.is c.if-significand-eq0.true
 
-pub overflow_cast-result : goal.overflow_cast-result
-overflow_cast-result c = record { sfits = omega (arith, (top_first _ c.if-significand-eq0.false (omega arith)).0) }
-
 pub overflow_sub-result : goal.overflow_sub-result
 overflow_sub-result c = lowered_fits _ _ _ _ c.requires c.in-Finite.is (search rules) c.if-significand-eq0.false (omega arith)
-
-pub overflow_cast-result-2 : goal.overflow_cast-result-2
-overflow_cast-result-2 c = record { fits = omega (arith, (top_first _ c.if-significand-eq0.false (omega arith)).0) }
-
-pub overflow_shl-result : goal.overflow_shl-result
-overflow_shl-result c = omega (arith, (top_first _ c.if-significand-eq0.false (omega arith)).0)
 
 pub returns : goal.returns
 returns c = moved _ _ _ _ c.requires c.in-Finite.is (search rules) c.if-significand-eq0.false (omega arith)

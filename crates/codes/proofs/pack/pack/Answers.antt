@@ -10,9 +10,6 @@ pub returns-then-length-room : goal.returns-then-length-room
 returns-then-length-room g c =
     rw (← c.FORMAT-room.ensures) (pack_wrong_length _ _ _ (sym c.is_working-fit.ensures ∙ (assumption)) c.if-length-room.true)
 
-pub equal_code-requires : goal.equal_code-requires
-equal_code-requires g c = sym c.is_working-fit.ensures ∙ c.if-not-fit.false
-
 pub returns : goal.returns
 returns g c =
     let fit = sym c.is_working-fit.ensures ∙ c.if-not-fit.false in

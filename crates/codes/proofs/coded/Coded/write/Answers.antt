@@ -12,12 +12,6 @@ returns-in_err-code g c =
     let e = err_from_is_err_and c.from_residual.result c.from_residual.ensures.1 in
     rw (e.1, e.2) (c.in_err-code.ensures.leaves _ refl)
 
-pub from_parts-requires : goal.from_parts-requires
-from_parts-requires g c = c.pack.ensures.room _ c.in_ok-code.was
-
-pub write_bytes-requires : goal.write_bytes-requires
-write_bytes-requires g c = c.pack.ensures.long _ c.in_ok-code.was
-
 pub returns : goal.returns
 unfolding laid packed writing refusal_row
 returns g c = rw (c.write_bytes.ensures, c.from_parts.ensures) (c.in_ok-code.ensures.leaves _ refl)

@@ -1,16 +1,11 @@
 -- `codes::double_extended::DoubleExtended::from_bytes` meets its contract. The first eight bytes are the significand, and the two that follow hold a number below 2^16.
-use mathlib.Core.Path.{sym}
 use native.Mathlib.Nat.{mod-eq_of_lt}
 use Prim.Native.Nat.{ℕ}
 use lib.Dec.{lit≤}
 use Rattle.little_endian.specs.Bytes.{IsBytes}
-use Rattle.little_endian.proofs.Laws.Bytes.{first_length, read_parts}
+use Rattle.little_endian.proofs.Laws.Bytes.{read_parts}
 use Rattle.codes.specs.Codes.{double_extended}
 use Rattle.codes.proofs.double_extended.DoubleExtendedLayout.from_bytes.Goals as goal
-
-pub slice_bounds-read-end : goal.slice_bounds-read-end
-unfolding double_extended
-slice_bounds-read-end c = sym (first_length _ 10 (lit≤ tt) c.args.bytes.now c.requires)
 
 pub returns : goal.returns
 unfolding IsBytes double_extended

@@ -1,14 +1,10 @@
 -- `codes::double_extended::DoubleExtended::write_bytes` meets its contract. The significand fills the first eight bytes, and `upper` the two that follow.
-use mathlib.Core.Path.{refl, sym}
+use mathlib.Core.Path.{refl}
 use native.Mathlib.Omega.{arith}
 use lib.Dec.{lit≤}
-use Rattle.little_endian.proofs.Laws.Bytes.{first_length, write_parts}
+use Rattle.little_endian.proofs.Laws.Bytes.{write_parts}
 use Rattle.codes.specs.Codes.{double_extended}
 use Rattle.codes.proofs.double_extended.DoubleExtendedLayout.write_bytes.Goals as goal
-
-pub slice_bounds-write-end-2 : goal.slice_bounds-write-end-2
-unfolding double_extended
-slice_bounds-write-end-2 c = sym (first_length 8 10 (lit≤ tt) c.args.bytes.now c.requires)
 
 pub returns : goal.returns
 unfolding double_extended

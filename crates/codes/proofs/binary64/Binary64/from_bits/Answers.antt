@@ -1,6 +1,0 @@
--- `codes::binary64::Binary64::from_bits` meets its contract: the code holds the bits.
-use mathlib.Core.Path.{refl}
-use Rattle.codes.proofs.binary64.Binary64.from_bits.Goals as goal
-
-pub returns : goal.returns
-returns c = refl

@@ -3,6 +3,7 @@ ghost use Rattle.std.specs.Prelude.{◌≡◌, ◌≤◌, eqb, cond, length, Ok,
 ghost use Rattle.report.specs.Program.{bytes_read, Decides};
 
 use super::awaited::Awaited;
+use super::{DECIDING, DECIDING_BLOCKS};
 use blocks::judgement::BLOCK_BYTES;
 use std::io::{Read, Result, Stdin};
 
@@ -14,6 +15,7 @@ pub enum Input {
 }
 
 impl Input {
+    // How many bytes were read.
     #[tactic(auto, unfolding(crate::specs::Program::bytes_read))]
     pub fn count(self) -> usize
         ensures { result ≡ bytes_read self }
@@ -27,31 +29,30 @@ impl Input {
 // Reads block by block into a buffer with room for 206 of them, up to the end of the input, or up to and
 // with the first block that a depot does not take, which is one of these 206. Whatever follows that block
 // changes nothing.
-// Kept: a `while`. The count is what was read, and behind `chunks_mut` a proof knows only how long the
-// buffer is, and none of its bytes.
-pub(crate) fn read_blocks(stdin: &mut Stdin, buffer: &mut [u8]) -> Result<Input>
-    requires { 105472 ≤ length buffer.old }
+pub(crate) fn read_blocks(stdin: &mut Stdin, buffer: &mut [u8; DECIDING]) -> Result<Input>
     ensures within { IfOk result (λ input. bytes_read input ≤ length buffer.new) }
     ensures decides { IfOk result (λ input. Decides input buffer.new) }
 {
     let mut awaited = Awaited::first();
-    let mut count = 0;
-    while buffer.len() - count >= BLOCK_BYTES {
-        let size = read(stdin, &mut buffer[count..count + BLOCK_BYTES])?;
-        count += size;
+    for number in 0..DECIDING_BLOCKS {
+        let start = number * BLOCK_BYTES;
+        let end = start + BLOCK_BYTES;
+        let size = read(stdin, &mut buffer[start..end])?;
         if size < BLOCK_BYTES {
-            return Ok(Input::Ended(count));
+            return Ok(Input::Ended(start + size));
         }
-        let Ok(next) = awaited.after(&buffer[count - BLOCK_BYTES..count]) else {
-            return Ok(Input::Decided(count));
+        let Ok(next) = awaited.after(&buffer[start..end]) else {
+            return Ok(Input::Decided(end));
         };
         awaited = next;
     }
-    Ok(Input::Decided(count))
+    Ok(Input::Decided(DECIDING))
 }
 
 // Fills the buffer from its start, until it is full or the input ends: fewer bytes than have room are read
 // only at the end. A read that brings less than was asked for is followed by another.
+// Kept: a `while`. Each turn goes on by what a read brought, and the library's `read_exact` doesn't say how
+// much came before the end.
 fn read(stdin: &mut Stdin, buffer: &mut [u8]) -> Result<usize>
     ensures { IfOk result (λ count. count ≤ length buffer.new) }
 {

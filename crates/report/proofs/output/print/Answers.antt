@@ -14,8 +14,8 @@ unfolding text_of
 within t count e = rw (e, length-take t.length t.bytes) (omega arith)
 
 pub slice_bounds-bytes-end : goal.slice_bounds-bytes-end
-slice_bounds-bytes-end c = within c.args.text c.count-count.result c.count-count.ensures
+slice_bounds-bytes-end c = within c.args.text c.count.result c.count.ensures
 
 pub slice_bounds-write_all-end : goal.slice_bounds-write_all-end
 slice_bounds-write_all-end c =
-    sym (length-take-le c.count-count.result c.args.text.bytes (within c.args.text c.count-count.result c.count-count.ensures))
+    sym (length-take-le c.count.result c.args.text.bytes (within c.args.text c.count.result c.count.ensures))

@@ -1,9 +1,11 @@
--- `arithmetic::magnitude::product` meets its contract. the columns make up the product.
-use Rattle.std.proofs.Common.{◌*◌, ap₂, arith}
-use lib.Pow.{split}
+-- `arithmetic::magnitude::product` meets its contract: a number is its two words.
+use Rattle.std.proofs.Common.{◌≡◌, ℕ, ◌/◌, ◌%◌, ◌^◌, arith}
 use Rattle.numbers.specs.Cell.{wide}
 use Rattle.arithmetic.proofs.magnitude.product.Goals as goal
 
-pub returns : goal.returns
+joined : (n : ℕ) → wide (n / 2 ^ 64) (n % 2 ^ 64) ≡ n
 unfolding wide
-returns c = omega (arith, ap₂ ◌*◌ (split c.args.a 32) (split c.args.b 32))
+joined n = omega arith
+
+pub returns : goal.returns
+returns c = rw (c.from.ensures, c.from-2.ensures) (joined _)

@@ -1,4 +1,4 @@
--- Reading and writing codes: what is read is fit and has the code's value, and each undoes the other. For any format; Parts shows that both are one.
+-- Reading and writing codes: what is read is fit and has the code's value, and each undoes the other. For any format; Formats of specs/ shows that both are one.
 use mathlib.Core.Path.{◌≡◌, refl, sym, ap, ◌∙◌}
 use mathlib.Core.Bool.{Bool, true, false, not, ◌&&◌, cond, false≢true}
 use mathlib.Core.List.{List}

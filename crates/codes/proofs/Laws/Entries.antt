@@ -50,7 +50,3 @@ module _ (f : Format) (x : Number) (n : ℕ) where
           long = λ (d : Code) (k : Ok c ≡ Ok d). h;
           room = λ (d : Code) (k : Ok c ≡ Ok d). placed_code f d (equal_code_is f x d formed fit (cc)).placed;
         }
-
--- what a packing leaves, by its case p
-pub packing_leaves : (f : Format) (x : Number) (old : List ℕ) (r p : Result Code Refusal) → IsPacking f x (length old) r → r ≡ p → laid f p old ≡ writing_of f x old
-packing_leaves f x old r p found is = rw (← is) (found.leaves old refl)

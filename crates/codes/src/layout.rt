@@ -13,6 +13,7 @@ pub trait Layout: Copy {
     ghost bits: { Self → ℕ };
 
     // The format's constants.
+    // Kept: each type lists its own, since document 01 asks for associated constants of each type.
     ghost FORMAT: { Format };
 
     const FORMAT: Format;

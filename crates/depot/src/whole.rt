@@ -10,6 +10,7 @@ use numbers::number::Number;
 const TOP: u32 = 63;
 
 // The whole number n: zero, or n moved left by its leading zeros.
+// Kept: a function. `From` can't be written here, since `Number` is another crate's.
 pub(crate) fn number_of(n: u32) -> Number
     ensures { (is_admissible result ≡ true) × Equal (value result) (whole n) }
 {

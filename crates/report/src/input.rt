@@ -8,6 +8,7 @@ use blocks::judgement::BLOCK_BYTES;
 use std::io::{Read, Result, Stdin};
 
 // How many bytes were read: all of the input, or as many as decide what is printed.
+// Kept: an enum. Neither case is a failure, and of the second more is promised.
 #[derive(Clone, Copy)]
 pub enum Input {
     Ended(usize),

@@ -54,6 +54,7 @@ fn report(depot: Depot, bracket: Bracket) -> Text
 }
 
 // The text with a line more: a name and a count.
+// Kept: beside `with_figure`. One function that takes what writes the value as a closure is no plainer.
 fn with_count(text: Text, name: &[u8], count: u32) -> Text
     ensures { text_of result ≡ cut (text_of text ++ line_of name.now (decimal_of count)) }
 {

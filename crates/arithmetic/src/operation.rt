@@ -52,6 +52,7 @@ pub enum Operation {
     Product,
 }
 
+// Kept: `operate` is public and takes the operation as a value.
 impl Exactly for Operation {
     ghost of = { exact_of };
 

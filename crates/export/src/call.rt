@@ -45,6 +45,7 @@ fn operands_in(a: &[u8], b: &[u8], room: usize) -> Result<(Number, Number), NoOp
 }
 
 // The mark of an accuracy: −1, 0 or 1 where the result lies below, at or above the exact one.
+// Kept: neither type is this crate's, so it can have no From.
 fn ternary_of(accuracy: Accuracy) -> i8
     ensures { result ≡ ternary_of accuracy }
 {
@@ -55,8 +56,8 @@ fn ternary_of(accuracy: Accuracy) -> i8
     }
 }
 
-// A call by its operation: writes the number and its accuracy, or leaves both as they were; and the
-// answer.
+// A call by its operation: writes the number and its accuracy, or leaves both as they were.
+// Kept: the answer is a number, as C takes it.
 pub(crate) fn called<F: Fn(Number, Number) -> Result<Rounded, Refusal>>(
     a: &[u8],
     b: &[u8],

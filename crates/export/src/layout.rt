@@ -27,6 +27,7 @@ pub(crate) fn read(bytes: &[u8]) -> Option<Number>
 }
 
 // The number with this kind, the word of its exponent and its significand, if there is one.
+// Kept: a kind is a number of the layout, and `Number` already tells the kinds apart.
 fn number_of(kind: u64, word: u32, significand: u64) -> Option<Number>
     ensures { result ≡ number_of kind word significand }
 {

@@ -32,17 +32,16 @@ fn divided(p: Number, d: Number, task: Task) -> Result<Rounded, Refusal>
     requires { (is_admissible p ≡ true) × (is_admissible d ≡ true) × (is_zero d ≡ false) × IsTask task }
     ensures { marked_answer result ≡ marked_by task (quotient (value p) (value d)) }
 {
-    let zero = Rounded {
-        number: Number::Zero,
-        accuracy: Accuracy::Exact,
-    };
     let Number::Finite {
         negative: p_negative,
         exponent: p_exponent,
         significand: p_significand,
     } = p
     else {
-        return Ok(zero);
+        return Ok(Rounded {
+            number: Number::Zero,
+            accuracy: Accuracy::Exact,
+        });
     };
     let Number::Finite {
         negative: d_negative,
@@ -50,7 +49,7 @@ fn divided(p: Number, d: Number, task: Task) -> Result<Rounded, Refusal>
         significand: d_significand,
     } = d
     else {
-        return Ok(zero);
+        unreachable!();
     };
     let digits = digits_of(
         Significand {

@@ -147,6 +147,7 @@ impl Divisor {
 }
 
 // A Newton step.
+#[tactic(auto, unfolding(crate::specs::Words::refined_word))]
 fn refined(dr: u64, x: u64) -> u64
     requires { HasProducts dr x }
     ensures { result ≡ refined_word dr x }

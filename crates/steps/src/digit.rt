@@ -20,8 +20,8 @@ pub(crate) struct Parts {
 }
 
 impl Parts {
-    #[tactic(auto, unfolding(crate::specs::Run::digit_of))]
     // The remainder, trunc 32, and its digit.
+    #[tactic(auto, unfolding(crate::specs::Run::digit_of))]
     pub(crate) fn digit(self, remainder: Line, task: LineTask) -> (Line, Line)
         ensures { (line_outcome result.0 ≡ line_of (by_mode Trunc 32) value (line_outcome remainder)) × (line_outcome result.1 ≡ digit_of task.task (line_outcome remainder) (line_outcome self.reciprocal)) }
     {
@@ -30,9 +30,9 @@ impl Parts {
         (upper, digit)
     }
 
-    #[tactic(auto, unfolding(crate::specs::Run::less_of))]
     // The products of a digit with the halves of the divisor, and the remainder less the first of them, and
     // less the second.
+    #[tactic(auto, unfolding(crate::specs::Run::less_of))]
     pub(crate) fn left(self, remainder: Line, digit: Line) -> (Line, Line, Line, Line)
         ensures high { line_outcome result.0 ≡ line_of_both (claim 64) product (line_outcome digit) (line_outcome self.high) }
         ensures low { line_outcome result.1 ≡ line_of_both (claim 64) product (line_outcome digit) (line_outcome self.low) }

@@ -27,8 +27,8 @@ not_zero d is h = false≢true (sym h ∙ ap is_zero is)
 pub returns-in_default : goal.returns-in_default
 returns-in_default c = zero_dividend _ _ _ c.in_default.is
 
-pub returns-in_default-d : goal.returns-in_default-d
-returns-in_default-d c = absurd (not_zero _ c.in_default-d.is c.requires.2)
+pub unreachable-requires : goal.unreachable-requires
+unreachable-requires c = not_zero _ c.in_default-d.is c.requires.2
 
 pub invariant_of-digits_of : goal.invariant_of-digits_of
 invariant_of-digits_of c = record { in_range = (both_significands _ _ _ _ _ _ _ _ c.in-Finite.is c.in-Finite-d.is c.requires.0 c.requires.1).0 }

@@ -82,11 +82,6 @@ module _ (d : Number) (s : Bool) (e : ℤ) (S : ℕ) (is : d ≡ Finite s e S) (
 pub unreachable-requires : goal.unreachable-requires
 unreachable-requires c = not_zero _ c.in-Zero.is c.args.d.nonzero
 
-pub overflow_sub-result : goal.overflow_sub-result
-overflow_sub-result c =
-    let fits : SFits w32 c.in-Finite.exponent = search rules in
-    exponent_fits _ _ _ _ c.in-Finite.is c.args.d.fit fits
-
 pub invariant_of-result : goal.invariant_of-result
 invariant_of-result c =
     let fits : SFits w32 c.in-Finite.exponent = search rules in

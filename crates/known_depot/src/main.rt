@@ -1,5 +1,5 @@
 // Makes the calls of a depot that stand on standard input, one to a line of 80 bytes, and prints for
-// each its answer and the whole state that it leaves. The input ends where no whole line is left.
+// each its answer and the whole state that it leaves.
 #![tactic(auto)]
 
 mod call;
@@ -16,16 +16,12 @@ fn answer(line: Line, depot: &mut Depot) -> Option<()> {
     run::answer(call, depot)
 }
 
-// A proved loop has to end, and nothing says that the input does: no run uses up so many turns.
 fn main() {
     let mut depot = Depot::fresh();
-    for _ in 0..u64::MAX {
-        let Some(text) = input::line() else {
-            return;
-        };
-        if answer(Line::new(&text), &mut depot).is_none() {
+    input::for_each_line(|line| {
+        if answer(line, &mut depot).is_none() {
             out::line("not a call");
         }
         out::line(state::Shown(depot));
-    }
+    });
 }

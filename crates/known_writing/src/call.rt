@@ -1,7 +1,6 @@
 // Reads the call of a line: `list` brings the numbers of vans, `edition` asks for an edition, `write` has
 // the blocks of the vans written, and `load` has these loaded.
-use lines::line;
-use lines::line::{Cursor, Line, Place, Word};
+use lines::line::Line;
 
 // What a line asks for: that so many numbers behind the line are the list, an edition, that the first
 // numbers of the list are written into an output of so many bytes, or that what the output holds is
@@ -12,68 +11,28 @@ pub enum Call {
     Edition(u32),
     Write { numbers: u32, bytes: u32 },
     Load,
-    Unreadable,
 }
 
 // The call of a line.
-pub fn read(text: &Line) -> Call {
-    if let Place::Past(c) = line::begun(text, b"list") {
-        return read_list(text, c);
-    }
-    if let Place::Past(c) = line::begun(text, b"edition") {
-        return read_edition(text, c);
-    }
-    if let Place::Past(c) = line::begun(text, b"write") {
-        return read_write(text, c);
-    }
-    let Place::Past(c) = line::begun(text, b"load") else {
-        return Call::Unreadable;
-    };
-    if !line::ended(text, c) {
-        return Call::Unreadable;
-    }
-    Call::Load
+pub fn read(mut line: Line) -> Option<Call> {
+    let call = read_call(&mut line)?;
+    line.end()?;
+    Some(call)
 }
 
-// How many numbers there are.
-fn read_list(text: &Line, c: Cursor) -> Call {
-    let Word::Read { value: count, next } = line::read_word(text, c) else {
-        return Call::Unreadable;
-    };
-    if !line::ended(text, next) {
-        return Call::Unreadable;
+fn read_call(line: &mut Line) -> Option<Call> {
+    if line.skip(b"list").is_some() {
+        return Some(Call::List(line.word()?));
     }
-    Call::List(count)
-}
-
-fn read_edition(text: &Line, c: Cursor) -> Call {
-    let Word::Read {
-        value: edition,
-        next,
-    } = line::read_word(text, c)
-    else {
-        return Call::Unreadable;
-    };
-    if !line::ended(text, next) {
-        return Call::Unreadable;
+    if line.skip(b"edition").is_some() {
+        return Some(Call::Edition(line.word()?));
     }
-    Call::Edition(edition)
-}
-
-// How many numbers are written, and into how many bytes.
-fn read_write(text: &Line, c: Cursor) -> Call {
-    let Word::Read {
-        value: numbers,
-        next,
-    } = line::read_word(text, c)
-    else {
-        return Call::Unreadable;
-    };
-    let Word::Read { value: bytes, next } = line::read_word(text, next) else {
-        return Call::Unreadable;
-    };
-    if !line::ended(text, next) {
-        return Call::Unreadable;
+    if line.skip(b"write").is_some() {
+        return Some(Call::Write {
+            numbers: line.word()?,
+            bytes: line.word()?,
+        });
     }
-    Call::Write { numbers, bytes }
+    line.skip(b"load")?;
+    Some(Call::Load)
 }

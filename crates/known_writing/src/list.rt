@@ -1,32 +1,26 @@
 // Reads a list from standard input: numbers of four bytes, the lowest byte first.
-use lines::input::STDIN_FILENO;
+use arrayvec::ArrayVec;
+use lines::input;
 
-// The next number of the input, or that it ended before.
-#[derive(Clone, Copy)]
-enum Next {
-    Number(u32),
-    Ended,
+// The most numbers of a list: as many as 205 blocks full of vans have, and no depot takes so many.
+pub const MOST: usize = 20_500;
+
+// The list of so many next numbers of the input, if that has them.
+pub fn read(count: usize) -> Option<ArrayVec<u32, MOST>> {
+    if count > MOST {
+        return None;
+    }
+    let mut list = ArrayVec::new();
+    for _ in 0..count {
+        list.push(read_number()?);
+    }
+    Some(list)
 }
 
-// Fills the list with the next numbers. False where the input has fewer.
-pub fn read(list: &mut [u32]) -> bool {
-    let mut i = 0;
-    while i < list.len() {
-        let Next::Number(value) = read_next() else {
-            return false;
-        };
-        list[i] = value;
-        i += 1;
+fn read_number() -> Option<u32> {
+    let mut bytes = [0; 4];
+    if input::fill(&mut bytes) < 4 {
+        return None;
     }
-    true
-}
-
-fn read_next() -> Next {
-    let mut bytes = [0u8; 4];
-    let got = io::read_full(STDIN_FILENO, &mut bytes);
-    if got < 4 {
-        return Next::Ended;
-    }
-    // What the remainder drops is zero: four bytes make 32 bits.
-    Next::Number((little_endian::read(&bytes) % 0x1_0000_0000) as u32)
+    Some(u32::from_le_bytes(bytes))
 }

@@ -1,99 +1,81 @@
 // Makes a call and prints what it answers and leaves.
-ghost use Rattle.std.specs.Prelude.{◌≡◌, ◌≤◌, length};
-
 use super::call::Call;
-use super::{answer, list, load, output};
+use super::{list, output};
+use arrayvec::ArrayVec;
+use blocks::judgement::BLOCK_BYTES;
+use depot::state::Depot;
+use lines::answer::Answer;
+use lines::number::Bounds;
+use lines::out;
+use refusals::Refusal;
 use writing::writer::write_blocks;
 
-// How many numbers the list has, how many bytes the output, and the edition that is asked for.
-#[derive(Clone, Copy)]
+// The list, the output, and the edition that is asked for.
+#[derive(Drop)]
 pub struct State {
-    pub numbers: usize,
-    pub bytes: usize,
-    pub edition: u32,
+    list: ArrayVec<u32, { list::MOST }>,
+    output: ArrayVec<u8, { output::MOST }>,
+    edition: u32,
 }
 
-// The state that the call leaves.
-pub(crate) fn run(call: Call, list: &mut [u32], output: &mut [u8], state: State) -> State
-    requires { (state.numbers ≤ length list.old) × (state.bytes ≤ length output.old) }
-    ensures { (result.numbers ≤ length list.old) × (result.bytes ≤ length output.old) }
-{
+impl State {
+    // No list, no output, and edition 0.
+    pub fn new() -> State {
+        State {
+            list: ArrayVec::new(),
+            output: ArrayVec::new(),
+            edition: 0,
+        }
+    }
+}
+
+// Makes the call and prints the answer. A list or an output that has no room is no call.
+pub fn answer(call: Call, state: &mut State) -> Option<()> {
     match call {
-        Call::List(count) => take(list, count as usize, state),
-        Call::Edition(edition) => ask_for(edition, state),
+        // The output of the list before is gone, and edition 0 is asked for.
+        Call::List(count) => {
+            state.list = list::read(count as usize)?;
+            state.output.clear();
+            state.edition = 0;
+            out::line(format_args!("list {count}"));
+        }
+        Call::Edition(edition) => {
+            state.edition = edition;
+            out::line(format_args!("edition {edition}"));
+        }
         Call::Write { numbers, bytes } => {
-            write(list, output, numbers as usize, bytes as usize, state)
+            let fields = state.list.get(..numbers as usize)?;
+            let mut output = output::pattern(bytes as usize)?;
+            let answer = write_blocks(state.edition, fields, &mut output);
+            out::line(Answer(answer.map(|()| "written")));
+            output::print(&output);
+            state.output = output;
         }
         Call::Load => {
-            let bytes = state.bytes;
-            answer::print_loaded(load::load(&output[0..bytes]));
-            state
+            let mut depot = Depot::fresh();
+            match load(&state.output, &mut depot) {
+                Ok(()) => out::line(format_args!("taken {}", depot.blocks)),
+                Err(refusal) => {
+                    out::line(format_args!("taken {} refused {}", depot.blocks, refusal.row()));
+                }
+            }
+            out::line(format_args!("vans {} {} {}", depot.moved, depot.parked, depot.over));
+            out::line(Answer(
+                depot.figures().map(|bracket| Bounds {
+                    low: bracket.low,
+                    high: bracket.high,
+                }),
+            ));
         }
-        Call::Unreadable => {
-            answer::print_no_call();
-            state
-        }
     }
+    Some(())
 }
 
-// Takes the next numbers of the input for the list. The output of the list before is gone, and edition 0
-// is asked for.
-fn take(list: &mut [u32], count: usize, state: State) -> State
-    requires { state.numbers ≤ length list.old }
-    ensures { (result.numbers ≤ length list.old) × (result.bytes ≤ state.bytes) }
-{
-    if count > list.len() {
-        answer::print_no_call();
-        return state;
+// Offers the whole pieces of the output to the depot, one after the other, up to the first that it
+// refuses.
+fn load(output: &[u8], depot: &mut Depot) -> Result<(), Refusal> {
+    for piece in output.chunks_exact(BLOCK_BYTES) {
+        depot.load(piece)?;
     }
-    if !list::read(&mut list[0..count]) {
-        answer::print_no_call();
-        return state;
-    }
-    answer::print_list(count);
-    State {
-        numbers: count,
-        bytes: 0,
-        edition: 0,
-    }
-}
-
-// Asks for an edition from here on.
-fn ask_for(edition: u32, state: State) -> State
-    ensures { (result.numbers ≡ state.numbers) × (result.bytes ≡ state.bytes) }
-{
-    answer::print_edition(edition);
-    State {
-        numbers: state.numbers,
-        bytes: state.bytes,
-        edition,
-    }
-}
-
-// Writes the first numbers of the list into so many bytes.
-fn write(list: &[u32], output: &mut [u8], numbers: usize, bytes: usize, state: State) -> State
-    requires { (state.numbers ≤ length list.now) × (state.bytes ≤ length output.old) }
-    ensures { (result.numbers ≤ length list.now) × (result.bytes ≤ length output.old) }
-{
-    if numbers > state.numbers {
-        answer::print_no_call();
-        return state;
-    }
-    if bytes > output.len() {
-        answer::print_no_call();
-        return state;
-    }
-    write_over(state.edition, &list[0..numbers], &mut output[0..bytes]);
-    State {
-        numbers: state.numbers,
-        bytes,
-        edition: state.edition,
-    }
-}
-
-// Writes all numbers over the pattern, and prints the answer and all bytes.
-fn write_over(edition: u32, numbers: &[u32], bytes: &mut [u8]) {
-    output::fill(bytes);
-    answer::print_writing(write_blocks(edition, numbers, bytes));
-    output::print(bytes);
+    Ok(())
 }

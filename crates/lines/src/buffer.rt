@@ -14,7 +14,7 @@ pub fn read(line: &mut Line) -> Option<ArrayVec<u8, MOST>> {
         let Some(byte) = line.two_digits() else {
             break;
         };
-        let _ = bytes.try_push(byte);
+        bytes.push(byte);
     }
     if bytes.is_empty() {
         line.skip(b"-")?;

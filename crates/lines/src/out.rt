@@ -1,5 +1,6 @@
 // Writes to standard output. A write that fails is left alone, and what follows is written: the output is
 // then short, and the comparison with what is expected tells.
+// Kept: the writer of its own. `print!` leaves out the rest of a text behind a write that fails.
 use std::fmt;
 use std::fmt::{Display, Write};
 

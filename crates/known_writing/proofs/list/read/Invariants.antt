@@ -1,9 +1,7 @@
--- `known_writing::list::read` is safe and ends: the measure is how many numbers are left to read.
-use Rattle.std.proofs.Common.{◌≡◌, ◌-◌, length}
+-- `known_writing::list::read` is safe: each turn before has added a number, so there is room.
+use Rattle.std.proofs.Common.{◌≡◌}
+use Rattle.arrayvec.specs.ArrayVec.{array_vec_len}
 use Rattle.known_writing.proofs.list.read.Given as goal
 
-abbrev pub invariant-loop-i : goal.invariant-loop-i
-invariant-loop-i l = length l.list ≡ length l.initial.list
-
-abbrev pub decreases-loop-i : goal.decreases-loop-i
-decreases-loop-i l = length l.initial.list - l.i
+abbrev pub invariant-loop : goal.invariant-loop
+invariant-loop l = array_vec_len l.list ≡ l.counter

@@ -39,17 +39,6 @@ module _ (e : ℤ) (fits : SFits w32 e) where
   cast_is : to_z w32 (of_z w32 e) ≡ e
   cast_is = to_z-of_z fits
 
-pub overflow_cast-result : goal.overflow_cast-result
-overflow_cast-result c = rw (cast_is c.args.exponent c.ranges.exponent) (wider c.args.exponent c.ranges.exponent)
-
-pub overflow_add-result : goal.overflow_add-result
-overflow_add-result c = rw (cast_is c.args.exponent c.ranges.exponent) (sum_fits c.args.exponent c.ranges.exponent)
-
-pub overflow_cast-result-2 : goal.overflow_cast-result-2
-overflow_cast-result-2 c =
-    let w = sum_natural c.args.exponent c.ranges.exponent in
-    rw (cast_is c.args.exponent c.ranges.exponent, sum_is c.args.exponent c.ranges.exponent) (tt, record { fits = omega (arith, w.2) })
-
 pub returns : goal.returns
 returns c =
     let w = sum_natural c.args.exponent c.ranges.exponent in

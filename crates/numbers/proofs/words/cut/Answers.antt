@@ -2,11 +2,8 @@
 use mathlib.Core.Path.{refl}
 use native.Mathlib.Nat.{le_of_lt, lt_of_lt_of_le}
 use lib.Pow.{pow_mono}
-use Rattle.numbers.proofs.Laws.Words.{uncut, all_cut, powers, swapped, dropped}
+use Rattle.numbers.proofs.Laws.Words.{all_cut, powers, swapped, dropped}
 use Rattle.numbers.proofs.words.cut.Goals as goal
-
-pub returns-then-by-eq0 : goal.returns-then-by-eq0
-returns-then-by-eq0 c = uncut _ _ c.if-by-eq0.true
 
 pub returns-then-by-lt64 : goal.returns-then-by-lt64
 returns-then-by-lt64 c = (refl, dropped (swapped (powers _ 64 (le_of_lt c.if-by-lt64.true))) _)

@@ -2,14 +2,11 @@
 use Prim.Native.Nat.{◌+◌}
 use native.Mathlib.Nat.{pos_of_ne-zero}
 use native.Mathlib.Omega.{arith}
-use lib.Count.{leading_le, leading_top}
+use lib.Count.{leading_top}
 use Rattle.numbers.specs.Cell.{wide}
 use Rattle.numbers.proofs.Laws.Words.{raised, top}
 use Rattle.numbers.proofs.Laws.Wide.{wide_low}
 use Rattle.numbers.proofs.words.leading_zeros.Goals as goal
-
-pub overflow_add-result : goal.overflow_add-result
-overflow_add-result c = omega (arith, leading_le 64 c.args.a.low)
 
 pub returns-then-a-eq0 : goal.returns-then-a-eq0
 returns-then-a-eq0 c =

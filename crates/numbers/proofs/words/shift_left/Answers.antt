@@ -1,13 +1,9 @@
 -- `numbers::words::shift_left` meets its contract. The bits that leave the low word are its high bits, and a bound on the result says that none leaves the high word.
-use mathlib.Core.Path.{sym}
-use native.Mathlib.Nat.{le_of_lt, mul-one}
+use native.Mathlib.Nat.{le_of_lt}
 use mir.Facts.{Fits-of_lt}
 use Rattle.numbers.specs.Cell.{wide}
 use Rattle.numbers.proofs.Laws.Words.{powers, left, left_word}
 use Rattle.numbers.proofs.words.shift_left.Goals as goal
-
-pub returns-then-by-eq0 : goal.returns-then-by-eq0
-returns-then-by-eq0 c = rw c.if-by-eq0.true (sym (mul-one _))
 
 pub overflow_add-result : goal.overflow_add-result
 unfolding wide

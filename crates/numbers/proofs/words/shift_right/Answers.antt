@@ -2,11 +2,8 @@
 use native.Mathlib.Nat.{le_of_lt}
 use mir.Facts.{Fits-of_lt}
 use Rattle.numbers.specs.Cell.{wide}
-use Rattle.numbers.proofs.Laws.Words.{uncut, powers, swapped, right, right_word}
+use Rattle.numbers.proofs.Laws.Words.{powers, swapped, right, right_word}
 use Rattle.numbers.proofs.words.shift_right.Goals as goal
-
-pub returns-then-by-eq0 : goal.returns-then-by-eq0
-returns-then-by-eq0 c = uncut _ _ c.if-by-eq0.true
 
 pub overflow_add-result : goal.overflow_add-result
 unfolding wide

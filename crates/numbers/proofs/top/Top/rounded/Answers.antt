@@ -70,20 +70,11 @@ module _ (mode : Mode) (negative : Bool) (x z F n high low : ℕ) (rest up inexa
       fits : (a b : ℕ) {s u : ℕ} → b ≤ (2 ^ 64 - 1) - a → a ≡ s → b ≡ u → 0 < u → s + u < 2 ^ 64
       fits a b l p q u0 = omega arith
 
-pub overflow_sub-shift : goal.overflow_sub-shift
-overflow_sub-shift c = omega arith
-
-pub overflow_shl-significand : goal.overflow_shl-significand
-overflow_shl-significand c = omega arith
-
 pub returns-then-not-up : goal.returns-then-not-up
 returns-then-not-up c =
     c.checked.ensures
     ∙ (stays _ _ _ _ _ _ _ _ c.shift_right-cell.result.rest _ _ _ c.requires.2 c.requires.3 c.requires.1 c.struct_known-2-1.given.1.0.fits c.shift_right-cell.ensures.0 c.shift_right-cell.ensures.1
     c.goes_up-up.ensures c.has_fraction-inexact.ensures c.accuracy_of-accuracy.ensures c.if-not-up.true)
-
-pub overflow_shl-unit : goal.overflow_shl-unit
-overflow_shl-unit c = omega arith
 
 pub returns-then-significand-unit : goal.returns-then-significand-unit
 returns-then-significand-unit c =

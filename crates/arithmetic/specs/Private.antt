@@ -19,7 +19,7 @@ operand_value a = scaled a.negative a.significand (a.exponent + 65598) last_bit
 
 -- the value that stands for an exact one up to its cell
 unfoldable pub exact_value : Exact → Fraction
-exact_value x = scaled x.negative (end_of (wide x.cell.high x.cell.low) x.cell.rest) x.exponent last_bit
+exact_value x = scaled x.negative (end_of (wide x.cell.magnitude.high x.cell.magnitude.low) x.cell.rest) x.exponent last_bit
 
 -- every task rounds and marks x as the value v
 unfoldable pub IsExact : Exact → Fraction → Type 0

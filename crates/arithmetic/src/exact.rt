@@ -63,8 +63,7 @@ fn product_of(a: Operand, b: Operand) -> Exact
         negative: a.negative != b.negative,
         exponent: a.exponent + b.exponent,
         cell: Cell {
-            high: magnitude.high,
-            low: magnitude.low,
+            magnitude,
             rest: false,
         },
     }

@@ -14,7 +14,7 @@ use super::rounding::Exact;
 use numbers::answer::Rounded;
 use numbers::number::{Number, is_working};
 use numbers::task::{Task, is_precision, precision_of, task_of};
-use numbers::words::Cell;
+use numbers::words::{Cell, Words};
 use refusals::Refusal;
 
 // The last mode code.
@@ -117,8 +117,10 @@ fn exact_operand(a: Operand) -> Exact
         negative: a.negative,
         exponent: a.exponent + UNRAISED_STEP,
         cell: Cell {
-            high: 0,
-            low: a.significand,
+            magnitude: Words {
+                high: 0,
+                low: a.significand,
+            },
             rest: false,
         },
     }

@@ -65,19 +65,12 @@ impl Ordered {
         let small = self.small;
         let top = raised(large.significand);
         let cell = shift_right(raised(small.significand), large.exponent - small.exponent);
-        let joined = sum(
-            top,
-            Words {
-                high: cell.high,
-                low: cell.low,
-            },
-        );
+        let magnitude = sum(top, cell.magnitude);
         Exact {
             negative: large.negative,
             exponent: large.exponent + RAISED_STEP,
             cell: Cell {
-                high: joined.high,
-                low: joined.low,
+                magnitude,
                 rest: cell.rest,
             },
         }
@@ -93,20 +86,13 @@ impl Ordered {
         let small = self.small;
         let top = raised(large.significand);
         let taken = shift_right(raised(small.significand), large.exponent - small.exponent);
-        let less = difference(
-            top,
-            Words {
-                high: taken.high,
-                low: taken.low,
-            },
-        );
-        let left = difference(less, borrow(taken.rest));
+        let less = difference(top, taken.magnitude);
+        let magnitude = difference(less, borrow(taken.rest));
         Exact {
             negative: large.negative,
             exponent: large.exponent + RAISED_STEP,
             cell: Cell {
-                high: left.high,
-                low: left.low,
+                magnitude,
                 rest: taken.rest,
             },
         }

@@ -62,8 +62,7 @@ fn divided(p: Number, d: Number, task: Task) -> Result<Rounded, Refusal>
     round_cell(
         p_negative != d_negative,
         Cell {
-            high: digits.high,
-            low: digits.low,
+            magnitude: digits.magnitude,
             rest: digits.remainder > 0,
         },
         p_exponent - d_exponent - FRACTION_BITS,

@@ -6,6 +6,7 @@ ghost use Rattle.numbers.specs.Cell.{wide};
 ghost use Rattle.division.specs.Words.{IsSignificand, refined_word, HasProducts, IsReciprocalWord, IsQuotient};
 
 use super::seed::entry_for;
+use numbers::words::Words;
 
 // How many numbers half a word holds: 2^32.
 const HALF: u64 = 0x1_0000_0000;
@@ -54,14 +55,13 @@ pub(crate) struct Digit {
 // 82 bits of a quotient, the first of which may be 0, in two words, and the remainder after them.
 #[derive(Clone, Copy)]
 pub(crate) struct Digits {
-    pub high: u64,
-    pub low: u64,
+    pub magnitude: Words,
     pub remainder: u64,
 }
 
 // p × 2^81 / d.
 pub(crate) fn digits_of(p: Significand, d: Significand) -> Digits
-    ensures { IsQuotient (p.word * 2 ^ 81) d.word (wide result.high result.low) result.remainder }
+    ensures { IsQuotient (p.word * 2 ^ 81) d.word (wide result.magnitude.high result.magnitude.low) result.remainder }
 {
     let divisor = Divisor::new(d);
     let bit = first_bit(p, d);
@@ -69,8 +69,10 @@ pub(crate) fn digits_of(p: Significand, d: Significand) -> Digits
     let second = divisor.next_digit(first.remainder);
     let third = divisor.next_digit(second.remainder);
     Digits {
-        high: bit.value * FIRST_BIT + first.value / LOW_PART,
-        low: first.value % LOW_PART * LOW_PART_PLACE + second.value * DIGIT_UNIT + third.value,
+        magnitude: Words {
+            high: bit.value * FIRST_BIT + first.value / LOW_PART,
+            low: first.value % LOW_PART * LOW_PART_PLACE + second.value * DIGIT_UNIT + third.value,
+        },
         remainder: third.remainder,
     }
 }

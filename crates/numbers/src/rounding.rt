@@ -23,7 +23,7 @@ const RAISE: i64 = 2_147_483_648;
 // where there is no rest, or F has two bits more than the task asks, and the answer lies alike against all
 // of them; else the answer and its mark are those of F made odd, and may be those of no value there.
 pub fn round_cell(negative: bool, cell: Cell, exponent: i32, task: Task) -> Result<Rounded, Refusal>
-    ensures { (marked_answer result ≡ cell_rounding negative (wide cell.high cell.low) cell.rest exponent task) × RoundsEvery (marked_answer result) negative (wide cell.high cell.low) cell.rest exponent task }
+    ensures { (marked_answer result ≡ cell_rounding negative (wide cell.magnitude.high cell.magnitude.low) cell.rest exponent task) × RoundsEvery (marked_answer result) negative (wide cell.magnitude.high cell.magnitude.low) cell.rest exponent task }
 {
     if !is_precision(precision_of(task)) {
         return Err(Refusal::BadPrecision);
@@ -40,19 +40,15 @@ fn raised(exponent: i32) -> u64
 
 // The magnitude that stands for the cell: made odd where there is a rest.
 fn end_of(cell: Cell) -> Words
-    ensures { wide result.high result.low ≡ end_of (wide cell.high cell.low) cell.rest }
+    ensures { wide result.high result.low ≡ end_of (wide cell.magnitude.high cell.magnitude.low) cell.rest }
 {
-    let high = cell.high;
     if cell.rest {
         Words {
-            high,
-            low: cell.low / 2 * 2 + 1,
+            low: cell.magnitude.low / 2 * 2 + 1,
+            ..cell.magnitude
         }
     } else {
-        Words {
-            high,
-            low: cell.low,
-        }
+        cell.magnitude
     }
 }
 

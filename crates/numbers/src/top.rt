@@ -43,9 +43,11 @@ impl Top {
         let mode = rounding.mode;
         let negative = self.negative;
         let cell = shift_right(self.magnitude, shift);
-        let significand = cell.high << shift;
-        let up = goes_up(mode, negative, cell.high, cell.low, cell.rest);
-        let inexact = has_fraction(cell.low, cell.rest);
+        let whole = cell.magnitude.high;
+        let fraction = cell.magnitude.low;
+        let significand = whole << shift;
+        let up = goes_up(mode, negative, whole, fraction, cell.rest);
+        let inexact = has_fraction(fraction, cell.rest);
         let accuracy = accuracy_of(negative, up, inexact);
         if !up {
             return self.checked(significand, accuracy);
@@ -67,12 +69,13 @@ impl Top {
         let shift = 64 - claim.precision;
         let cell = shift_right(self.magnitude, shift);
         let outside = !self.is_inside();
-        let exact = !has_fraction(cell.low, cell.rest);
+        let fraction = cell.magnitude.low;
+        let exact = !has_fraction(fraction, cell.rest);
         if outside {
             return Err(Refusal::ExponentOutside);
         }
         if exact {
-            return self.checked(cell.high << shift, Accuracy::Exact);
+            return self.checked(cell.magnitude.high << shift, Accuracy::Exact);
         }
         Err(Refusal::TooManyBits)
     }

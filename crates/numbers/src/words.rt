@@ -41,8 +41,7 @@ pub struct Words {
 // A magnitude, and whether something nonzero lies below its last bit.
 #[derive(Clone, Copy)]
 pub struct Cell {
-    pub high: u64,
-    pub low: u64,
+    pub magnitude: Words,
     pub rest: bool,
 }
 
@@ -80,34 +79,37 @@ pub(crate) fn shift_left(a: Words, by: u32) -> Words
 
 // a / 2^by as a whole number, and whether a bit that was set is dropped.
 pub fn shift_right(a: Words, by: u32) -> Cell
-    ensures { (wide result.high result.low ≡ wide a.high a.low / 2 ^ by) × (result.rest ≡ ltb 0 (wide a.high a.low % 2 ^ by)) }
+    ensures { (wide result.magnitude.high result.magnitude.low ≡ wide a.high a.low / 2 ^ by) × (result.rest ≡ ltb 0 (wide a.high a.low % 2 ^ by)) }
 {
     if by == 0 {
         return Cell {
-            high: a.high,
-            low: a.low,
+            magnitude: a,
             rest: false,
         };
     }
     if by < 64 {
         let low = cut(a.low, by);
         return Cell {
-            high: a.high >> by,
-            low: (a.high << (64 - by)) + low.value,
+            magnitude: Words {
+                high: a.high >> by,
+                low: (a.high << (64 - by)) + low.value,
+            },
             rest: low.rest,
         };
     }
     let high = cut(a.high, by - 64);
+    let magnitude = Words {
+        high: 0,
+        low: high.value,
+    };
     if a.low > 0 {
         return Cell {
-            high: 0,
-            low: high.value,
+            magnitude,
             rest: true,
         };
     }
     Cell {
-        high: 0,
-        low: high.value,
+        magnitude,
         rest: high.rest,
     }
 }

@@ -14,13 +14,13 @@ pub difference-less-requires : goal.difference-less-requires
 difference-less-requires c =
     subtracted_fits _ _ (pair (goal.at-difference-less-requires c).Start) _ _ _ c.shift_right-taken.result.rest c.raised-top.ensures c.raised.ensures c.shift_right-taken.ensures.0 c.shift_right-taken.ensures.1
 
-pub difference-left-requires : goal.difference-left-requires
-difference-left-requires c =
-    borrowed_fits _ _ (pair (goal.at-difference-left-requires c).Start) _ _ _ c.shift_right-taken.result.rest c.raised-top.ensures c.raised.ensures c.shift_right-taken.ensures.0
+pub difference-magnitude-requires : goal.difference-magnitude-requires
+difference-magnitude-requires c =
+    borrowed_fits _ _ (pair (goal.at-difference-magnitude-requires c).Start) _ _ _ c.shift_right-taken.result.rest c.raised-top.ensures c.raised.ensures c.shift_right-taken.ensures.0
     c.shift_right-taken.ensures.1 _ _ c.difference-less.ensures c.borrow.ensures
 
 pub returns : goal.returns
 unfolding IsExact exact_value
 returns c = λ (task : Task) (n0 : 1 ≤ precision_of task) (n1 : precision_of task ≤ 64).
     subtracted_answer _ _ (pair (goal.at-returns c).Start) _ _ _ c.shift_right-taken.result.rest c.raised-top.ensures c.raised.ensures c.shift_right-taken.ensures.0
-    c.shift_right-taken.ensures.1 c.requires _ _ _ _ c.difference-less.ensures c.borrow.ensures c.difference-left.ensures task n0 n1
+    c.shift_right-taken.ensures.1 c.requires _ _ _ _ c.difference-less.ensures c.borrow.ensures c.difference-magnitude.ensures task n0 n1

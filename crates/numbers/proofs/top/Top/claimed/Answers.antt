@@ -46,7 +46,7 @@ returns-then-outside c = outside _ _ _ _ _ c.is_inside-outside.ensures c.if-outs
 pub returns-then-exact : goal.returns-then-exact
 returns-then-exact c =
     c.checked.ensures
-    ∙ none _ _ _ _ _ _ c.shift_right-cell.result.rest _ _ c.requires.2 c.struct_known-then-exact-1.given.1.0.fits c.shift_right-cell.ensures.0 c.shift_right-cell.ensures.1 c.is_inside-outside.ensures c.has_fraction-exact.ensures
+    ∙ none _ _ _ _ _ _ c.shift_right-cell.result.rest _ _ c.requires.2 (omega arith) c.shift_right-cell.ensures.0 c.shift_right-cell.ensures.1 c.is_inside-outside.ensures c.has_fraction-exact.ensures
     c.requires.0 c.if-outside.false c.if-exact.true
 
 pub returns : goal.returns

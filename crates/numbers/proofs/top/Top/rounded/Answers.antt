@@ -73,17 +73,17 @@ module _ (mode : Mode) (negative : Bool) (x z F n high low : ℕ) (rest up inexa
 pub returns-then-not-up : goal.returns-then-not-up
 returns-then-not-up c =
     c.checked.ensures
-    ∙ (stays _ _ _ _ _ _ _ _ c.shift_right-cell.result.rest _ _ _ c.requires.2 c.requires.3 c.requires.1 c.struct_known-2-1.given.1.0.fits c.shift_right-cell.ensures.0 c.shift_right-cell.ensures.1
+    ∙ (stays _ _ _ _ _ _ _ _ c.shift_right-cell.result.rest _ _ _ c.requires.2 c.requires.3 c.requires.1 (omega arith) c.shift_right-cell.ensures.0 c.shift_right-cell.ensures.1
     c.goes_up-up.ensures c.has_fraction-inexact.ensures c.accuracy_of-accuracy.ensures c.if-not-up.true)
 
 pub returns-then-significand-unit : goal.returns-then-significand-unit
 returns-then-significand-unit c =
     c.checked-then-significand-unit.ensures
-    ∙ (carries _ _ _ _ _ _ _ _ c.shift_right-cell.result.rest _ _ _ c.requires.2 c.requires.3 c.requires.1 c.struct_known-2-1.given.1.0.fits c.shift_right-cell.ensures.0 c.shift_right-cell.ensures.1
+    ∙ (carries _ _ _ _ _ _ _ _ c.shift_right-cell.result.rest _ _ _ c.requires.2 c.requires.3 c.requires.1 (omega arith) c.shift_right-cell.ensures.0 c.shift_right-cell.ensures.1
     c.goes_up-up.ensures c.has_fraction-inexact.ensures c.accuracy_of-accuracy.ensures c.if-not-up.false c.if-significand-unit.true)
 
 pub returns-else-significand-unit : goal.returns-else-significand-unit
 returns-else-significand-unit c =
     c.checked-else-significand-unit.ensures
-    ∙ (goes_on _ _ _ _ _ _ _ _ c.shift_right-cell.result.rest _ _ _ c.requires.2 c.requires.3 c.requires.1 c.struct_known-2-1.given.1.0.fits c.shift_right-cell.ensures.0 c.shift_right-cell.ensures.1
+    ∙ (goes_on _ _ _ _ _ _ _ _ c.shift_right-cell.result.rest _ _ _ c.requires.2 c.requires.3 c.requires.1 (omega arith) c.shift_right-cell.ensures.0 c.shift_right-cell.ensures.1
     c.goes_up-up.ensures c.has_fraction-inexact.ensures c.accuracy_of-accuracy.ensures c.if-not-up.false c.if-significand-unit.false)

@@ -30,6 +30,7 @@ pub(crate) fn goes_up(mode: Mode, negative: bool, whole: u64, fraction: u64, res
         Mode::Trunc => false,
         Mode::Away => true,
         Mode::Near => {
+            // Kept: tests in a row. A match on `cmp` is no shorter, since the tie has two tests of its own.
             if fraction < TOP_BIT {
                 return false;
             }

@@ -26,6 +26,7 @@ pub const HIGHEST_ADMISSIBLE: i32 = 16_384;
 pub const TOP_BIT: u64 = 0x8000_0000_0000_0000;
 
 // Is x fit to be an operand of add, subtract and multiply?
+// Kept: beside `is_admissible`. Both are public, each with its own definition; `is_fit` is what they share.
 pub fn is_working(x: Number) -> bool
     ensures { result ≡ is_working x }
 {
@@ -51,10 +52,9 @@ pub fn is_fit(x: Number, lowest: i32, highest: i32) -> bool
     else {
         return true;
     };
-    if lowest <= exponent {
-        if exponent <= highest {
-            return TOP_BIT <= significand;
-        }
+    // Kept: tests in a row, as the definition has them.
+    if lowest <= exponent && exponent <= highest {
+        return TOP_BIT <= significand;
     }
     false
 }

@@ -32,6 +32,7 @@ pub fn round_cell(negative: bool, cell: Cell, exponent: i32, task: Task) -> Resu
 }
 
 // An exponent as a natural number.
+// Kept: a function. It adds 2^31, which no conversion of the library does.
 fn raised(exponent: i32) -> u64
     ensures { (exponent ≡ minus result raise) × (result < 2 ^ 32) }
 {
@@ -39,6 +40,7 @@ fn raised(exponent: i32) -> u64
 }
 
 // The magnitude that stands for the cell: made odd where there is a rest.
+// Kept: no `From`, since the rest goes into the last bit.
 fn end_of(cell: Cell) -> Words
     ensures { wide result.high result.low ≡ end_of (wide cell.magnitude.high cell.magnitude.low) cell.rest }
 {
@@ -53,6 +55,7 @@ fn end_of(cell: Cell) -> Words
 }
 
 // A two-word magnitude rounded once, or claimed exact, by its task.
+// Kept: bounds in the contract. `Task` is public and takes any precision, which row 2 judges before.
 fn rounded(negative: bool, exponent: u64, magnitude: Words, task: Task) -> Result<Rounded, Refusal>
     requires { (exponent < 2 ^ 32) × (1 ≤ precision_of task) × (precision_of task ≤ 64) }
     ensures { marked_answer result ≡ marked_by task (scaled negative (wide magnitude.high magnitude.low) exponent raise) }

@@ -59,6 +59,7 @@ pub enum Task {
 
 // The task that a mode code and a precision name. Codes end at 6, the exact claim; the entries refuse a
 // higher one, which here is a claim too.
+// Kept: a code. Public entries take any number for one, and row 1 refuses those that name no task.
 pub fn task_of(code: u32, precision: u32) -> Task
     ensures { result ≡ task_of code precision }
 {
@@ -69,6 +70,7 @@ pub fn task_of(code: u32, precision: u32) -> Task
 }
 
 // Is n a precision: 1 to 64?
+// Kept: two tests, as the definition has them.
 pub fn is_precision(n: u32) -> bool
     ensures { result ≡ is_precision n }
 {

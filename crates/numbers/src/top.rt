@@ -35,6 +35,7 @@ pub(crate) struct Top {
 
 impl Top {
     // Rounded by a mode.
+    // Kept: the exponent's bound is no invariant of `Top`, since a carry raises the exponent by one.
     pub(crate) fn rounded(self, rounding: Rounding) -> Result<Rounded, Refusal>
         requires { (self.exponent < 2 ^ 32) × (wide self.magnitude.high self.magnitude.low < 2 ^ 128) × (1 ≤ rounding.precision) × (rounding.precision ≤ 64) }
         ensures { marked_answer result ≡ rounded_top rounding.mode self.negative (exponent_of_top self) rounding.precision (wide self.magnitude.high self.magnitude.low) }
@@ -110,6 +111,7 @@ impl Top {
 }
 
 // The working exponent that a biased one stands for.
+// Kept: no `From`, which can't ask for a biased exponent.
 fn unbiased(b: u64) -> i32
     requires { b ≤ highest_biased }
     ensures { result ≡ minus b bias }

@@ -78,6 +78,7 @@ pub(crate) fn shift_left(a: Words, by: u32) -> Words
 }
 
 // a / 2^by as a whole number, and whether a bit that was set is dropped.
+// Kept: the parts of the answer come from different words, so none is taken over whole.
 pub fn shift_right(a: Words, by: u32) -> Cell
     ensures { (wide result.magnitude.high result.magnitude.low ≡ wide a.high a.low / 2 ^ by) × (result.rest ≡ ltb 0 (wide a.high a.low % 2 ^ by)) }
 {

@@ -15,6 +15,7 @@ use Rattle.numbers.specs.Number.{is_fit, is_between, is_significand}
 use Rattle.numbers.specs.declared.number.Number.{Number}
 use Rattle.numbers.specs.declared.number.Number.TheVariants.{Zero, Finite}
 use Rattle.numbers.proofs.number.is_fit.Goals as goal
+use Rattle.numbers.proofs.number.is_fit.Goals.{else-lowest-exponent-via-then-lowest-exponent+else-exponent-highest, else-lowest-exponent-via-else-lowest-exponent}
 
 module _ (lowest highest : ℤ) (x : Number) where
   zero_fit : x ≡ Zero → true ≡ is_fit (is_between lowest highest) x
@@ -46,12 +47,12 @@ returns-then-exponent-highest c =
     let fits : SFits w32 c.in-Finite.exponent = search rules in
     between _ _ _ _ _ _ c.in-Finite.is (as_read c.ranges.lowest fits c.if-lowest-exponent.true) (as_read fits c.ranges.highest c.if-exponent-highest.true) (omega arith)
 
-pub returns-else-exponent-highest : goal.returns-else-exponent-highest
-returns-else-exponent-highest c =
+pub returns : goal.returns
+returns c =
     let fits : SFits w32 c.in-Finite.exponent = search rules in
-    above _ _ _ _ _ _ c.in-Finite.is (as_read fits c.ranges.highest c.if-exponent-highest.false)
-
-pub returns-else-lowest-exponent : goal.returns-else-lowest-exponent
-returns-else-lowest-exponent c =
-    let fits : SFits w32 c.in-Finite.exponent = search rules in
-    below _ _ _ _ _ _ c.in-Finite.is (as_read c.ranges.lowest fits c.if-lowest-exponent.false)
+    elim c.else-lowest-exponent.branch [
+      | else-lowest-exponent-via-then-lowest-exponent+else-exponent-highest w ↦
+          above _ _ _ _ _ _ c.in-Finite.is (as_read fits c.ranges.highest w.if-exponent-highest.false)
+      | else-lowest-exponent-via-else-lowest-exponent w ↦
+          below _ _ _ _ _ _ c.in-Finite.is (as_read c.ranges.lowest fits w.if-lowest-exponent.false)
+    ]

@@ -8,7 +8,7 @@ ghost use Rattle.codes.specs.declared.code.Format.{Format};
 use super::code::Format;
 
 // A type whose values are the codes of one format.
-pub trait Layout: Copy {
+pub(crate) trait Layout: Copy {
     // The bits of a code as a whole number.
     ghost bits: { Self → ℕ };
 

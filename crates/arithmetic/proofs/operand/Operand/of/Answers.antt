@@ -24,5 +24,5 @@ returns c = elim c.match-x.branch [
   | in-Zero w ↦ rw w.result-is (zero_operand _ w.in-Zero.is)
   | in-Finite w ↦
       let fits : SFits w32 w.in-Finite.exponent = search rules in
-      rw w.result-is (finite_operand _ _ _ _ _ w.in-Finite.is (sym (to_z-of_z fits) ∙ w.biased.ensures.0))
+      rw w.result-is (finite_operand _ _ _ _ _ w.in-Finite.is c.requires (sym (to_z-of_z fits) ∙ w.biased.ensures.0) w.biased.ensures.1).0
 ]

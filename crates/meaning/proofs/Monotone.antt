@@ -18,12 +18,12 @@ use Rattle.numbers.specs.declared.task.Mode.{Mode}
 use Rattle.numbers.specs.declared.task.Mode.TheVariants.{Trunc, Away, Near, Sticky, Up, Down}
 use Rattle.numbers.proofs.Laws.Tests.{at_most_one}
 use Rattle.numbers.proofs.Laws.Exponent.{exponent_reaches, exponent_below}
-use Rattle.numbers.proofs.Laws.Fits.{scaled_low, scaled_high, round_zero}
+use Rattle.numbers.proofs.Laws.Fits.{scaled_low, scaled_high}
 use Rattle.numbers.proofs.Laws.Misses.{whole_exact}
+use Rattle.numbers.proofs.Laws.Multiples.{zero_rounded}
 use Rattle.numbers.proofs.Laws.Pairs.{signed_pair, at_most_pair}
 use Rattle.numbers.proofs.Laws.Powers.{power_twice, power_product, up_power, down_power, powers_divide}
 use Rattle.numbers.proofs.Laws.Rounded.{exponent, round_units}
-use Rattle.numbers.proofs.Laws.Scaled.{zero_value}
 use Rattle.numbers.proofs.Laws.Alike.{own_sign}
 use Rattle.numbers.proofs.Laws.Value.{whole_alone}
 
@@ -130,9 +130,6 @@ units_monotone mode n s a b c d a0 b0 c0 d0 n0 h =
 
 -- ---- fractions
 
-zero_size : (mode : Mode) (n : ℕ) (x : Fraction) → nat_abs x.numerator ≡ 0 → nat_abs (value (round mode n x)).numerator ≡ 0
-zero_size mode n x e = rw (round_zero mode n x e) zero_value
-
 -- the magnitude of the rounding of x, over the denominator of that of y
 abbrev size : Mode → ℕ → Fraction → Fraction → ℕ
 size mode n x y = nat_abs (value (round mode n x)).numerator * (value (round mode n y)).denominator
@@ -143,7 +140,7 @@ size_monotone : (mode : Mode) (n : ℕ) (x y : Fraction) → IsFraction x → Is
 size_monotone mode n x y x0 y0 n0 n1 sign h = go (nat_abs x.numerator) refl
   where
     go : (a : ℕ) → nat_abs x.numerator ≡ a → size mode n x y ≤ size mode n y x
-    go zero e = rw (zero_size mode n x e) (omega arith)
+    go zero e = rw (zero_rounded mode n x e) (omega arith)
     go (suc a) e =
         let P = 2 ^ (n - 1) in
         let some : 1 ≤ nat_abs x.numerator = omega arith in
@@ -174,5 +171,5 @@ round_monotone mode n x y x0 y0 n0 n1 h =
     (size_monotone mode n x y x0 y0 n0 n1)
     (λ e. size_monotone mode n y x y0 x0 n0 n1 (sym e))
     (λ (l : a * y.denominator + c * x.denominator ≤ 0).
-    (zero_size mode n x (omega (arith, mul-le-mul_left a y0)), zero_size mode n y (omega (arith, mul-le-mul_left c x0))))
+    (zero_rounded mode n x (omega (arith, mul-le-mul_left a y0)), zero_rounded mode n y (omega (arith, mul-le-mul_left c x0))))
     ((at_most_pair (signed_pair x _ _ (own_sign x)) (signed_pair y _ _ (own_sign y))).0 h))

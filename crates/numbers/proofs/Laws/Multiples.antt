@@ -93,7 +93,7 @@ grid_below_units : (X d K I O u v : ℕ) → 0 < d → 0 < X → 0 < O → X * O
 grid_below_units X d zero I O u v d0 X0 O0 size less = absurd (omega (arith, mul-pos X0 O0))
 grid_below_units X d (suc K) I O u v d0 X0 O0 size less = lt_of_mul-lt-mul_right d (omega (arith, ap (λ (z : ℕ). z * v) size, mul-lt-mul_of_pos_right {k = O} less O0))
 
-zero_rounded : (mode : Mode) (n : ℕ) (x : Fraction) → nat_abs x.numerator ≡ 0 → nat_abs (value (round mode n x)).numerator ≡ 0
+pub zero_rounded : (mode : Mode) (n : ℕ) (x : Fraction) → nat_abs x.numerator ≡ 0 → nat_abs (value (round mode n x)).numerator ≡ 0
 unfolding round
 zero_rounded mode n x e = rw e zero_value
 

@@ -28,7 +28,33 @@ pub fn round_cell(negative: bool, cell: Cell, exponent: i32, task: Task) -> Resu
     if !is_precision(precision_of(task)) {
         return Err(Refusal::BadPrecision);
     }
-    rounded(negative, raised(exponent), end_of(cell), task)
+    let magnitude = end_of(cell);
+    if magnitude.high == 0 && magnitude.low == 0 {
+        return Ok(Rounded {
+            number: Number::Zero,
+            accuracy: Accuracy::Exact,
+        });
+    }
+    let zeros = leading_zeros(magnitude);
+    let top = Top {
+        negative,
+        exponent: raised(exponent),
+        zeros,
+        magnitude: shift_left(magnitude, zeros),
+    };
+    match task {
+        Task::Round(rounding) => {
+            let decision = top.decided(rounding);
+            let number = top.placed(decision.whole, decision.up, rounding.precision)?;
+            let accuracy = decision.accuracy;
+            Ok(Rounded { number, accuracy })
+        }
+        Task::Exact(claim) => {
+            let number = top.claimed(claim)?;
+            let accuracy = Accuracy::Exact;
+            Ok(Rounded { number, accuracy })
+        }
+    }
 }
 
 // An exponent as a natural number.
@@ -51,32 +77,5 @@ fn end_of(cell: Cell) -> Words
         }
     } else {
         cell.magnitude
-    }
-}
-
-// A two-word magnitude rounded once, or claimed exact, by its task.
-// Kept: bounds in the contract. `Task` is public and takes any precision, which row 2 judges before.
-fn rounded(negative: bool, exponent: u64, magnitude: Words, task: Task) -> Result<Rounded, Refusal>
-    requires { (exponent < 2 ^ 32) × (1 ≤ precision_of task) × (precision_of task ≤ 64) }
-    ensures { marked_answer result ≡ marked_by task (scaled negative (wide magnitude.high magnitude.low) exponent raise) }
-{
-    if magnitude.high == 0 {
-        if magnitude.low == 0 {
-            return Ok(Rounded {
-                number: Number::Zero,
-                accuracy: Accuracy::Exact,
-            });
-        }
-    }
-    let zeros = leading_zeros(magnitude);
-    let top = Top {
-        negative,
-        exponent,
-        zeros,
-        magnitude: shift_left(magnitude, zeros),
-    };
-    match task {
-        Task::Round(rounding) => top.rounded(rounding),
-        Task::Exact(claim) => top.claimed(claim),
     }
 }

@@ -1,14 +1,14 @@
 // A magnitude F of two words with its top bit at bit 127, rounded or claimed exact.
-ghost use Rattle.std.specs.Prelude.{◌≡◌, ◌^◌, ◌≤◌, ◌<◌};
+ghost use Rattle.std.specs.Prelude.{◌≡◌, ◌+◌, ◌^◌, ◌≤◌, ◌<◌, cond};
 ghost use Rattle.std.specs.Float.Ieee.{minus};
 ghost use Rattle.numbers.specs.Biased.{bias, highest_biased};
-ghost use Rattle.numbers.specs.Answer.{checked};
-ghost use Rattle.numbers.specs.Accuracy.{marked_answer};
+ghost use Rattle.numbers.specs.Answer.{checked, answer_outcome};
 ghost use Rattle.numbers.specs.Number.{is_working_exponent};
+ghost use Rattle.numbers.specs.Rounding.{placed};
 ghost use Rattle.numbers.specs.Cell.{wide};
-ghost use Rattle.numbers.specs.Magnitude.{exponent_of_top, told, rounded_top, claimed_top};
+ghost use Rattle.numbers.specs.Magnitude.{exponent_of_top, IsDecided, judged_top};
 
-use super::answer::{Accuracy, Rounded};
+use super::answer::Accuracy;
 use super::decision::{accuracy_of, goes_up, has_fraction};
 use super::number::{Number, TOP_BIT};
 use super::task::{Claim, Rounding};
@@ -33,12 +33,19 @@ pub(crate) struct Top {
     pub magnitude: Words,
 }
 
+// What a mode decides of a magnitude.
+#[derive(Clone, Copy)]
+pub(crate) struct Decision {
+    pub whole: u64,
+    pub up: bool,
+    pub accuracy: Accuracy,
+}
+
 impl Top {
-    // Rounded by a mode.
-    // Kept: the exponent's bound is no invariant of `Top`, since a carry raises the exponent by one.
-    pub(crate) fn rounded(self, rounding: Rounding) -> Result<Rounded, Refusal>
-        requires { (self.exponent < 2 ^ 32) × (wide self.magnitude.high self.magnitude.low < 2 ^ 128) × (1 ≤ rounding.precision) × (rounding.precision ≤ 64) }
-        ensures { marked_answer result ≡ rounded_top rounding.mode self.negative (exponent_of_top self) rounding.precision (wide self.magnitude.high self.magnitude.low) }
+    // What a mode decides: the whole number of the upper bits, whether it goes up, and where the result lies.
+    pub(crate) fn decided(self, rounding: Rounding) -> Decision
+        requires { (wide self.magnitude.high self.magnitude.low < 2 ^ 128) × (1 ≤ rounding.precision) × (rounding.precision ≤ 64) }
+        ensures { IsDecided rounding.mode self.negative rounding.precision (wide self.magnitude.high self.magnitude.low) result }
     {
         let shift = 64 - rounding.precision;
         let mode = rounding.mode;
@@ -46,26 +53,39 @@ impl Top {
         let cell = shift_right(self.magnitude, shift);
         let whole = cell.magnitude.high;
         let fraction = cell.magnitude.low;
-        let significand = whole << shift;
         let up = goes_up(mode, negative, whole, fraction, cell.rest);
         let inexact = has_fraction(fraction, cell.rest);
         let accuracy = accuracy_of(negative, up, inexact);
+        Decision {
+            whole,
+            up,
+            accuracy,
+        }
+    }
+
+    // The number with this whole number of its upper bits, or with the next one; a carry raises the exponent.
+    pub(crate) fn placed(self, whole: u64, up: bool, precision: u32) -> Result<Number, Refusal>
+        requires { (self.exponent < 2 ^ 32) × (1 ≤ precision) × (precision ≤ 64) × (whole < 2 ^ precision) }
+        ensures { answer_outcome result ≡ checked (placed self.negative (exponent_of_top self) precision (whole + cond up 1 0)) }
+    {
+        let shift = 64 - precision;
+        let significand = whole << shift;
         if !up {
-            return self.checked(significand, accuracy);
+            return self.checked(significand);
         }
         let unit = 1u64 << shift;
         if u64::MAX - significand < unit {
             let exponent = self.exponent + 1;
-            Top { exponent, ..self }.checked(TOP_BIT, accuracy)
+            Top { exponent, ..self }.checked(TOP_BIT)
         } else {
-            self.checked(significand + unit, accuracy)
+            self.checked(significand + unit)
         }
     }
 
     // Claimed to have at most so many bits: the exponent is judged first, then the bits.
-    pub(crate) fn claimed(self, claim: Claim) -> Result<Rounded, Refusal>
+    pub(crate) fn claimed(self, claim: Claim) -> Result<Number, Refusal>
         requires { (wide self.magnitude.high self.magnitude.low < 2 ^ 128) × (1 ≤ claim.precision) × (claim.precision ≤ 64) }
-        ensures { marked_answer result ≡ claimed_top self.negative (exponent_of_top self) claim.precision (wide self.magnitude.high self.magnitude.low) }
+        ensures { answer_outcome result ≡ judged_top self.negative (exponent_of_top self) claim.precision (wide self.magnitude.high self.magnitude.low) }
     {
         let shift = 64 - claim.precision;
         let cell = shift_right(self.magnitude, shift);
@@ -76,23 +96,20 @@ impl Top {
             return Err(Refusal::ExponentOutside);
         }
         if exact {
-            return self.checked(cell.magnitude.high << shift, Accuracy::Exact);
+            return self.checked(cell.magnitude.high << shift);
         }
         Err(Refusal::TooManyBits)
     }
 
-    // The number with this significand and its accuracy, or a refusal of the exponent.
-    fn checked(self, significand: u64, accuracy: Accuracy) -> Result<Rounded, Refusal>
-        ensures { marked_answer result ≡ told accuracy (checked (Number.Finite self.negative (exponent_of_top self) significand)) }
+    // The number with this significand, or a refusal of the exponent.
+    fn checked(self, significand: u64) -> Result<Number, Refusal>
+        ensures { answer_outcome result ≡ checked (Number.Finite self.negative (exponent_of_top self) significand) }
     {
         if self.is_inside() {
-            Ok(Rounded {
-                number: Number::Finite {
-                    negative: self.negative,
-                    exponent: unbiased(self.exponent - (self.zeros as u64 + LOWEST_AT_TOP)),
-                    significand,
-                },
-                accuracy,
+            Ok(Number::Finite {
+                negative: self.negative,
+                exponent: unbiased(self.exponent - (self.zeros as u64 + LOWEST_AT_TOP)),
+                significand,
             })
         } else {
             Err(Refusal::ExponentOutside)

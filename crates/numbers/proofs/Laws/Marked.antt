@@ -8,7 +8,7 @@ use mathlib.Core.Logic.{inl, inr}
 use Prim.Native.Nat.{ℕ, ◌*◌, ◌^◌, ◌≤◌}
 use lib.IntN.{nat_abs}
 use Rattle.numbers.specs.Accuracy.{marked_as, accuracy_of, marked, marked_by, marked_answer, unmarked}
-use Rattle.numbers.specs.Answer.{Outcome, given, refused, rounded, claimed}
+use Rattle.numbers.specs.Answer.{Outcome, given, refused, rounded, claimed, answer_outcome}
 use Rattle.numbers.specs.Fraction.{Fraction, IsFraction, Equal, value}
 use Rattle.numbers.specs.Grid.{Alike}
 use Rattle.numbers.specs.Magnitude.{told}
@@ -37,6 +37,15 @@ pub unmark : (x : Fraction) (o : Outcome) → unmarked (marked x o) ≡ o
 unfolding marked unmarked
 unmark x (given y) = refl
 unmark x (refused k) = refl
+
+-- what is told of an answer is what it is marked as
+pub told_ok : (y : Number) (mark : Accuracy) (o : Outcome) → answer_outcome (Ok y) ≡ o → marked_answer (Ok (record { number = y; accuracy = mark })) ≡ told mark o
+unfolding answer_outcome marked_answer told
+told_ok y mark o e = ap (told mark) e
+
+pub told_err : (mark : Accuracy) (refusal : Refusal) (o : Outcome) → answer_outcome (Err refusal) ≡ o → marked_answer (Err refusal) ≡ told mark o
+unfolding answer_outcome marked_answer told
+told_err mark refusal o e = ap (told mark) e
 
 -- an outcome is marked as it is told, where its number has that accuracy
 pub told_marked : (mark : Accuracy) (x : Fraction) (o : Outcome) → ((z : Number) → o ≡ given z → mark ≡ accuracy_of (value z) x) → told mark o ≡ marked x o

@@ -9,20 +9,17 @@ use lib.IntN.{ℤ}
 use Rattle.std.specs.Prelude.{Err}
 use Rattle.refusals.specs.Row.{row_number}
 use Rattle.refusals.specs.declared.Refusal.TheVariants.{ExponentOutside, TooManyBits}
-use Rattle.numbers.specs.Accuracy.{marked_as, marked_answer}
-use Rattle.numbers.specs.Answer.{checked, judged}
+use Rattle.numbers.specs.Answer.{given, checked, judged, answer_outcome}
 use Rattle.numbers.specs.Grid.{bit_of}
 use Rattle.numbers.specs.Number.{is_working_exponent}
 use Rattle.numbers.specs.Cell.{wide}
-use Rattle.numbers.specs.Magnitude.{told, claimed_top}
-use Rattle.numbers.specs.declared.answer.Accuracy.TheVariants as accuracy
-use Rattle.numbers.specs.declared.number.Number.{Number}
+use Rattle.numbers.specs.Magnitude.{judged_top}
 use Rattle.numbers.specs.declared.number.Number.TheVariants.{Finite}
 use Rattle.numbers.proofs.Laws.Top.{top_bits, upper_bits}
 use Rattle.numbers.proofs.top.Top.claimed.Goals as goal
 
-outside : (negative : Bool) (e : ℤ) (n F : ℕ) (inside : Bool) → inside ≡ is_working_exponent e → inside ≡ false → marked_answer (Err ExponentOutside) ≡ claimed_top negative e n F
-unfolding marked_answer row_number told claimed_top judged
+outside : (negative : Bool) (e : ℤ) (n F : ℕ) (inside : Bool) → inside ≡ is_working_exponent e → inside ≡ false → answer_outcome (Err ExponentOutside) ≡ judged_top negative e n F
+unfolding answer_outcome row_number judged_top judged
 outside negative e n F inside judged h = rw (sym judged ∙ h)
 
 module _ (negative : Bool) (e : ℤ) (F n high low : ℕ) (rest inside inexact : Bool) (n1 : n ≤ 64) (word : low < 2 ^ 64)
@@ -30,15 +27,15 @@ module _ (negative : Bool) (e : ℤ) (F n high low : ℕ) (rest inside inexact :
   bits : ltb 0 (F % 2 ^ (128 - n)) ≡ inexact
   bits = top_bits F n high low rest n1 word shifted dropped ∙ sym some
 
-  too_many : inside ≡ true → inexact ≡ true → marked_answer (Err TooManyBits) ≡ claimed_top negative e n F
-  unfolding marked_answer row_number told claimed_top judged
+  too_many : inside ≡ true → inexact ≡ true → answer_outcome (Err TooManyBits) ≡ judged_top negative e n F
+  unfolding answer_outcome row_number judged_top judged
   too_many h k = rw (sym judged ∙ h, ne_eqb (F % 2 ^ (128 - n)) 0 (λ (z : F % 2 ^ (128 - n) ≡ 0). let l = ltb-true 0 (F % 2 ^ (128 - n)) (bits ∙ k) in omega arith))
 
-  none : F < 2 ^ 128 → inside ≡ true → inexact ≡ false → told accuracy.Exact (checked (Finite negative e (high * 2 ^ (64 - n) % 2 ^ 64))) ≡ claimed_top negative e n F
-  unfolding told checked claimed_top judged
+  none : F < 2 ^ 128 → inside ≡ true → inexact ≡ false → checked (Finite negative e (high * 2 ^ (64 - n) % 2 ^ 64)) ≡ judged_top negative e n F
+  unfolding checked judged_top judged
   none F1 h k =
       rw (sym judged ∙ h, eq-eqb (F % 2 ^ (128 - n)) 0 (let l = ltb-false 0 (F % 2 ^ (128 - n)) (bits ∙ k) in omega arith))
-      (ap (λ (y : Number). marked_as y accuracy.Exact) (upper_bits F n high low rest n1 word shifted dropped F1 negative e))
+      (ap given (upper_bits F n high low rest n1 word shifted dropped F1 negative e))
 
 pub returns-then-outside : goal.returns-then-outside
 returns-then-outside c = outside _ _ _ _ _ c.is_inside-outside.ensures c.if-outside.true

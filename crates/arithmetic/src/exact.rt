@@ -16,6 +16,8 @@ use numbers::words::Cell;
 pub(crate) trait Exactly: Copy {
     ghost of: { Self → Fraction → Fraction → Fraction };
 
+    // Kept: `IsExact` in each promise, since it joins the answer with another value each time. Working is
+    // asked for here and by an operand, which keeps what is used of it.
     fn exact(self, a: Number, b: Number) -> Exact
         requires { (is_working a ≡ true) × (is_working b ≡ true) }
         ensures { IsExact result (of self (value a) (value b)) };

@@ -9,6 +9,7 @@ use numbers::task::is_precision;
 use refusals::Refusal;
 
 // The lowest row from 2 to 4 that applies to two operands and a precision, or that none does.
+// Kept: beside that of division, which has rows 1 and 5 besides and asks for another range.
 pub(crate) fn judged(a: Number, b: Number, precision: u32) -> Result<(), Refusal>
     ensures row { (x : Outcome) → unless_refused result x ≡ unless_either_unfit is_working a b precision x }
     ensures fit { OnOk result ((is_working a ≡ true) × (is_working b ≡ true) × (is_precision precision ≡ true)) }

@@ -28,6 +28,7 @@ pub(crate) fn sum(a: Words, b: Words) -> Words
 }
 
 // a − b, where b is no larger.
+// Kept: beside `sum`. A borrow in place of a carry, and another demand: no parameter makes them one.
 pub(crate) fn difference(a: Words, b: Words) -> Words
     requires { wide b.high b.low ≤ wide a.high a.low }
     ensures { wide result.high result.low + wide b.high b.low ≡ wide a.high a.low }

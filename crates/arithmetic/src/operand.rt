@@ -12,6 +12,7 @@ const BIAS: i32 = 65_535;
 
 // sign × significand × 2^(exponent − 65,598). Zero has significand and exponent 0, and any other operand
 // has its top bit set.
+// Kept: fields of its own. The exponent is biased, and zero is one of the values.
 #[derive(Clone, Copy)]
 pub(crate) struct Operand {
     pub negative: bool,
@@ -25,6 +26,7 @@ impl Operand {
     ghost use Rattle.arithmetic.specs.Private.{operand_value};
 
     // The operand of a working number.
+    // Kept: no From, which can't ask for a working number.
     pub(crate) fn of(x: Number) -> Operand
         requires { is_working x ≡ true }
         ensures { Equal (value x) (operand_value result) }
@@ -49,6 +51,7 @@ impl Operand {
 }
 
 // A working exponent with the bias added.
+// Kept: no From, which can't ask for a working exponent.
 fn biased(exponent: i32) -> u32
     requires { is_working_exponent exponent ≡ true }
     ensures { (exponent ≡ minus result bias) × (result ≤ highest_biased) }

@@ -24,6 +24,7 @@ const LAST_CODE: u32 = 6;
 const UNRAISED_STEP: u32 = 65_598;
 
 // a + b.
+// Kept: two numbers, a code and a precision, here and below. Any may be handed in, and rows 1 to 4 refuse.
 pub fn add(a: Number, b: Number, code: u32, precision: u32) -> Result<Rounded, Refusal>
     ensures { marked_answer result ≡ marked (sum (value a) (value b)) (sum_of a b code precision) }
 {
@@ -110,6 +111,7 @@ fn by_task<E: Exactly>(operation: E, a: Number, b: Number, task: Task) -> Result
 }
 
 // a.
+// Kept: a function. It has one caller, and `IsExact` is its promise as of each exact value.
 fn exact_operand(a: Operand) -> Exact
     ensures { IsExact result (operand_value a) }
 {

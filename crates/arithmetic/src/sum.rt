@@ -26,6 +26,7 @@ fn raised(significand: u64) -> Words
 }
 
 // One where there is a rest.
+// Kept: a function. `From` would stand in crate numbers, which makes no words of a truth value.
 fn borrow(rest: bool) -> Words
     ensures { wide result.high result.low ≡ bit_of rest }
 {
@@ -69,15 +70,13 @@ impl Ordered {
         Exact {
             negative: large.negative,
             exponent: large.exponent + RAISED_STEP,
-            cell: Cell {
-                magnitude,
-                rest: cell.rest,
-            },
+            cell: Cell { magnitude, ..cell },
         }
     }
 
     // The sum of two operands of two signs. Where there is a rest, the exact difference lies in the cell
     // below, so one more is taken off.
+    // Kept: beside `added`, which takes nothing off for a rest.
     fn subtracted(self) -> Exact
         requires { self.small.negative ≡ not self.large.negative }
         ensures { IsExact result (sum (operand_value self.large) (operand_value self.small)) }
@@ -91,10 +90,7 @@ impl Ordered {
         Exact {
             negative: large.negative,
             exponent: large.exponent + RAISED_STEP,
-            cell: Cell {
-                magnitude,
-                rest: taken.rest,
-            },
+            cell: Cell { magnitude, ..taken },
         }
     }
 

@@ -31,6 +31,7 @@ impl Binary64 {
     pub const HIGHEST: i32 = 1_023;
 
     // The code with these bits.
+    // Kept: beside that of `DoubleExtended`, which takes two parts. Both are public.
     pub fn from_bits(bits: u64) -> Binary64
         ensures { result.bits ≡ bits }
     {

@@ -15,6 +15,7 @@ pub(crate) fn fit_number<F: Layout>(code: F) -> Result<Number, Refusal>
     ensures { answer_outcome result ≡ number_of F.FORMAT (F.bits code) }
 {
     let found = decode(code);
+    // Kept: a let-else and no `?`, as document 01 asks.
     let Ok(x) = found else {
         return found;
     };
@@ -63,7 +64,7 @@ fn is_canonical<F: Layout>(code: Code) -> bool
 fn counted(field: u32) -> u32
     ensures { result ≡ counted field }
 {
-    if field == 0 { 1 } else { field }
+    field.max(1)
 }
 
 // The same value with the top bit of the significand set, or zero.

@@ -28,6 +28,7 @@ pub(crate) fn pack<F: Layout>(x: Number, length: usize) -> Result<Code, Refusal>
 
 // The code that equals a working number, if there is one: the exponent is not above the highest, and
 // no bit of the significand falls off.
+// Kept: a demand. `pack` alone calls this, and has asked it.
 fn equal_code<F: Layout>(x: Number) -> Result<Code, Refusal>
     requires { is_working x ≡ true }
     ensures { result ≡ packing_of (equal_code F.FORMAT x) }

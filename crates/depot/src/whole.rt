@@ -10,14 +10,15 @@ use numbers::number::Number;
 const TOP: u32 = 63;
 
 // The whole number n: zero, or n moved left by its leading zeros.
-// Kept: a function. `From` can't be written here, since `Number` is another crate's.
+// Kept: a function. `From` would stand in crate numbers, which has no whole numbers, and couldn't promise by
+// `whole`.
 pub(crate) fn number_of(n: u32) -> Number
     ensures { (is_admissible result ≡ true) × Equal (value result) (whole n) }
 {
     if n == 0 {
         return Number::Zero;
     }
-    let word = n as u64;
+    let word = u64::from(n);
     let zeros = u64::leading_zeros(word);
     Number::Finite {
         negative: false,

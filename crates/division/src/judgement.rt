@@ -11,6 +11,7 @@ use refusals::Refusal;
 const LAST_CODE: u32 = 5;
 
 // Judges a pair, a mode code and a precision: the lowest row from 1 to 5 that applies, or that none does.
+// Kept: beside that of arithmetic. Two numbers, a code and a precision, which rows 1 to 5 judge.
 pub fn judged(p: Number, d: Number, code: u32, precision: u32) -> Result<(), Refusal>
     ensures { (x : Outcome) → unless_refused result x ≡ unless_indivisible p d code precision x }
 {

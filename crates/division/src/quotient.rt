@@ -28,6 +28,7 @@ pub fn divide(p: Number, d: Number, code: u32, precision: u32) -> Result<Rounded
 }
 
 // The quotient with nothing to refuse: its digits and whether there is a remainder are a cell.
+// Kept: demands. `divide` alone calls this, and `judged` gives all of them.
 fn divided(p: Number, d: Number, task: Task) -> Result<Rounded, Refusal>
     requires { (is_admissible p ≡ true) × (is_admissible d ≡ true) × (is_zero d ≡ false) × IsTask task }
     ensures { marked_answer result ≡ marked_by task (quotient (value p) (value d)) }

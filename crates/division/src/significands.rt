@@ -60,6 +60,7 @@ pub(crate) struct Digits {
 }
 
 // p × 2^81 / d.
+// Kept: `IsQuotient` in each promise, since it joins the answer with another dividend each time.
 pub(crate) fn digits_of(p: Significand, d: Significand) -> Digits
     ensures { IsQuotient (p.word * 2 ^ 81) d.word (wide result.magnitude.high result.magnitude.low) result.remainder }
 {
@@ -110,7 +111,7 @@ impl Divisor {
     {
         let word = d.word;
         let dr = (word - 1) / HALF + 1;
-        let seed = entry_for(word) as u64 * SEED_UNIT;
+        let seed = u64::from(entry_for(word)) * SEED_UNIT;
         let once = refined(dr, seed);
         Divisor {
             word,
@@ -139,7 +140,7 @@ impl Divisor {
         // it: the correction is a digit, 0 or 1.
         let lent = HALF + left0 - d0;
         let over = left1 + lent / HALF;
-        let correction = (over > d1) as u64;
+        let correction = u64::from(over > d1);
         let left = left1 % HALF * HALF + left0;
         Digit {
             value: digit + correction,

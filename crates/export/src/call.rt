@@ -45,7 +45,7 @@ fn operands_in(a: &[u8], b: &[u8], room: usize) -> Result<(Number, Number), NoOp
 }
 
 // The mark of an accuracy: −1, 0 or 1 where the result lies below, at or above the exact one.
-// Kept: neither type is this crate's, so it can have no From.
+// Kept: −1, 0 and 1 are the C interface's, and neither type is this crate's, so it can have no From.
 fn ternary_of(accuracy: Accuracy) -> i8
     ensures { result ≡ ternary_of accuracy }
 {

@@ -48,6 +48,7 @@ fn number_of(kind: u64, word: u32, significand: u64) -> Option<Number>
 }
 
 // The kind of a number that is not zero.
+// Kept: 1 and 2 are numbers of the layout.
 fn kind_of(negative: bool) -> u64
     ensures { result ≡ kind_of negative }
 {
@@ -61,6 +62,7 @@ struct Words {
     upper: u64,
 }
 
+// Kept: a function. It has one caller, and its promise is on both words together.
 fn words_of(x: Number) -> Words
     ensures { bytes_of 8 result.significand ++ bytes_of 8 result.upper ≡ layout_of x }
 {

@@ -21,6 +21,7 @@ mod layout;
 use call::called;
 
 // a + b.
+// Kept: numbers and six parameters, here and below, as C hands them in.
 #[unsafe(no_mangle)]
 pub extern "C" fn navehuro_add(
     a: &[u8],

@@ -15,6 +15,7 @@ pub fn run(line: Line) {
 }
 
 // Prints the answer to a case, if the line is one.
+// Kept: tests in a row. A table would hold functions of several types.
 fn answer(line: Line) -> Option<()> {
     if let Some(case) = line.past(b"add") {
         return operations::answer(case, add);

@@ -26,6 +26,7 @@ pub fn read(mut line: Line, depot: Depot) -> Option<Call> {
     Some(call)
 }
 
+// Kept: tests in a row. A table of tokens would need a match on their numbers besides.
 fn read_call(line: &mut Line, depot: Depot) -> Option<Call> {
     if line.skip(b"load").is_some() {
         return Some(Call::Load(line.word()?));

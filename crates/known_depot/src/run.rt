@@ -1,5 +1,6 @@
 // Makes a call and prints its answer.
 use super::call::Call;
+use depot::figures::Bracket;
 use depot::rate::rate_of;
 use depot::state::Depot;
 use lines::answer::Answer;
@@ -12,6 +13,7 @@ const MOST: usize = 1_024;
 // Makes the call on the depot and prints the answer: `fit` or `unfit` for a state handed in, `taken` for
 // a block, two figures, a rate with its accuracy, or `refused` with the row that refused. A line that
 // offers too many bytes is no call.
+// Kept: a match, one arm to a call. A closure for each would take what the arm takes.
 pub fn answer(call: Call, depot: &mut Depot) -> Option<()> {
     match call {
         Call::HandIn(next) => {
@@ -20,10 +22,9 @@ pub fn answer(call: Call, depot: &mut Depot) -> Option<()> {
         }
         Call::Load(length) => return load(length, depot),
         Call::Ask => out::line(Answer(
-            depot.figures().map(|bracket| Bounds {
-                low: bracket.low,
-                high: bracket.high,
-            }),
+            depot
+                .figures()
+                .map(|Bracket { low, high }| Bounds { low, high }),
         )),
         Call::Rate {
             code,

@@ -7,6 +7,7 @@ use lines::number;
 use std::fmt;
 
 // The state that a line hands in, for a depot in this state.
+// Kept: tests in a row. A table of tokens would need a match on their numbers besides.
 pub fn read(line: &mut Line, mut depot: Depot) -> Option<Depot> {
     if line.skip(b"fresh").is_some() {
         return Some(Depot::fresh());

@@ -20,6 +20,7 @@ pub fn read(mut line: Line) -> Option<Call> {
     Some(call)
 }
 
+// Kept: tests in a row. A table of tokens would need a match on their numbers besides.
 fn read_call(line: &mut Line) -> Option<Call> {
     if line.skip(b"list").is_some() {
         return Some(Call::List(line.word()?));

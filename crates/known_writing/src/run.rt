@@ -3,6 +3,7 @@ use super::call::Call;
 use super::{list, output};
 use arrayvec::ArrayVec;
 use blocks::judgement::BLOCK_BYTES;
+use depot::figures::Bracket;
 use depot::state::Depot;
 use lines::answer::Answer;
 use lines::number::Bounds;
@@ -30,6 +31,7 @@ impl State {
 }
 
 // Makes the call and prints the answer. A list or an output that has no room is no call.
+// Kept: a match, one arm to a call. A closure for each would take what the arm takes.
 pub fn answer(call: Call, state: &mut State) -> Option<()> {
     match call {
         // The output of the list before is gone, and edition 0 is asked for.
@@ -61,10 +63,9 @@ pub fn answer(call: Call, state: &mut State) -> Option<()> {
             }
             out::line(format_args!("vans {} {} {}", depot.moved, depot.parked, depot.over));
             out::line(Answer(
-                depot.figures().map(|bracket| Bounds {
-                    low: bracket.low,
-                    high: bracket.high,
-                }),
+                depot
+                    .figures()
+                    .map(|Bracket { low, high }| Bounds { low, high }),
             ));
         }
     }

@@ -73,6 +73,7 @@ impl fmt::Display for Marked {
 }
 
 // A low and a high number as they are printed.
+// Kept: beside the bracket of a depot, which this crate doesn't know.
 #[derive(Clone, Copy)]
 pub struct Bounds {
     pub low: Number,

@@ -21,6 +21,7 @@ fn main(rt: HostRuntime) {
     let mut stderr = rt.stderr();
     let mut buffer = [0u8; DECIDING];
     match input::read_blocks(&mut stdin, &mut buffer) {
+        // Kept: a buffer and a count of its bytes, since there is no heap.
         Ok(input) => output::print(
             &mut stdout,
             &mut stderr,

@@ -11,6 +11,7 @@ use refusals::Refusal;
 use text::text::Text;
 
 // What is printed at the end of the input: the report, or the row that refuses figures.
+// Kept: no Display, here and below, since each line is promised byte by byte.
 pub fn closing(depot: Depot) -> Text
     ensures { text_of result ≡ closing_text depot }
 {
@@ -54,7 +55,7 @@ fn report(depot: Depot, bracket: Bracket) -> Text
 }
 
 // The text with a line more: a name and a count.
-// Kept: beside `with_figure`. One function that takes what writes the value as a closure is no plainer.
+// Kept: beside `with_figure`. One function would take a closure, and demand of it what it writes.
 fn with_count(text: Text, name: &[u8], count: u32) -> Text
     ensures { text_of result ≡ cut (text_of text ++ line_of name.now (decimal_of count)) }
 {

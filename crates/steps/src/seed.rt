@@ -23,7 +23,7 @@ pub(crate) fn seed(d: Divisor) -> Working
             number: Number::Finite {
                 negative,
                 exponent: -1 - exponent,
-                significand: (entry_for(significand) as u64) << 56,
+                significand: u64::from(entry_for(significand)) << 56,
             },
         },
     }

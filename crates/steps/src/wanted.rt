@@ -22,6 +22,7 @@ use refusals::Refusal;
 pub const LAST_STEP: u32 = 32;
 
 // The value after the wanted step of p / d, or the lowest refusal that applies.
+// Kept: a mode code and the number of a step. Any may be handed in, and rows 1 and 6 refuse.
 pub fn step(p: Number, d: Number, code: u32, precision: u32, wanted: u32) -> Result<Number, Refusal>
     ensures { answer_outcome result ≡ step_of p d code precision wanted }
 {
@@ -38,11 +39,12 @@ pub fn step(p: Number, d: Number, code: u32, precision: u32, wanted: u32) -> Res
 }
 
 // Is there such a step: 1 to 32?
+// Kept: beside `is_precision`, which has another row and another definition.
 #[tactic(auto, unfolding(crate::specs::Wanted::is_step))]
 fn is_step(wanted: u32) -> bool
     ensures { result ≡ is_step wanted }
 {
-    1 <= wanted && wanted <= LAST_STEP
+    (1..=LAST_STEP).contains(&wanted)
 }
 
 // The values after all the steps, by their names in Figure 1 of source document 001.

@@ -6,6 +6,7 @@ use super::text::Text;
 
 impl Text {
     // The text with n in decimal more.
+    // Kept: beside `with_sixteen_digits`. The library has a function for each, and gives a count.
     pub fn with_decimal(self, n: u64) -> Text
         ensures { text_of result ≡ cut (text_of self ++ decimal_of n) }
     {

@@ -7,8 +7,8 @@ ghost use Rattle.text.specs.Text.{text_of, cut};
 pub const CAPACITY: usize = 192;
 
 // The bytes before `length` are the text; those behind it mean nothing.
-// Kept: an array with its length beside. A text is `Copy`, and its readers take both fields; an
-// `ArrayVec` isn't.
+// Kept: an array with its length beside. `text_of` speaks of both fields, and public functions take a text
+// by value, as often as one likes; an `ArrayVec` isn't `Copy`.
 #[derive(Clone, Copy)]
 pub struct Text {
     pub bytes: [u8; CAPACITY],
@@ -45,6 +45,7 @@ impl Text {
     }
 
     // The text with these bytes more, as many as have room.
+    // Kept: no Display, here and in other modules. Each promises its text, cut to the room there is.
     pub fn with_bytes(self, more: &[u8]) -> Text
         ensures { text_of result ≡ cut (text_of self ++ more.now) }
     {

@@ -1,6 +1,7 @@
 -- The refusals in the table's order: what the test of row 2 says, and what `unless_indivisible`, rows 1 to 5, is behind each test. Rows 1 to 4
 -- are those of every operation.
-use Rattle.std.proofs.Common.{◌≡◌, ℕ, ◌<◌, ◌≤◌, Bool, true, false, cond, not, ltb, sym, refl, ◌∙◌, ltb-false}
+use Rattle.std.proofs.Common.{◌≡◌, ℕ, ◌<◌, ◌≤◌, Bool, true, false, cond, not, ltb, sym, refl, ap, ◌∙◌, ltb-false}
+use mathlib.Core.Bool.{false≢true}
 use Rattle.numbers.specs.Answer.{Outcome, given, refused, rounded, unless_unknown, unless_unfit}
 use Rattle.numbers.specs.Fraction.{value, quotient}
 use Rattle.numbers.specs.Number.{is_admissible}
@@ -12,6 +13,11 @@ use Rattle.numbers.proofs.Laws.Refusals as rows
 use Rattle.numbers.proofs.Laws.Tests.{never}
 use Rattle.division.specs.Quotient.{is_zero, unless_indivisible, quotient_of}
 use Rattle.division.specs.Judgement.{IsTaken, IsTask}
+
+-- a divisor is not zero
+pub not_zero : (d : Number) → d ≡ Zero → is_zero d ≡ false → ⊥
+unfolding is_zero
+not_zero d is h = false≢true (sym h ∙ ap is_zero is)
 
 -- what the test of row 2 says of a task
 pub task_range : (task : Task) (code n : ℕ) → task ≡ task_of code n → is_precision n ≡ true → IsTask task

@@ -7,10 +7,11 @@ use native.Mathlib.Nat.{le_refl, lt_of_not-le}
 use native.Mathlib.Omega.{arith}
 use lib.ListN.{length, take, drop, length-take, length-drop, length-append, take-append-drop}
 use lib.Seq.{length-take-le, take_all, take_at, drop_at, take-append-le, drop-append-le, take-take}
+use Rattle.std.proofs.lemmas.List.{take_min, drop_min}
 use Rattle.little_endian.specs.Bytes.{IsBytes}
 use Rattle.little_endian.proofs.Laws.Bytes.{bytes_take, bytes_drop}
 use Rattle.blocks.specs.Lists.{All}
-use Rattle.blocks.proofs.Laws.Lists.{take_least, drop_least, take_drop}
+use Rattle.blocks.proofs.Laws.Lists.{take_drop}
 use Rattle.reporting.specs.Report.{pieces_by, pieces_of}
 use Rattle.reporting.specs.Demand.{AreCut, at_end, full, short}
 
@@ -51,8 +52,8 @@ pub record IsNextPiece (input piece rest : List ℕ) : Type 0 where
 
 pub next_piece : (input piece rest : List ℕ) → IsNextPiece input piece rest → pieces_of input ≡ piece ∷ pieces_of rest
 next_piece input piece rest is =
-    let first : take 512 input ≡ piece = sym (take_least 512 input) ∙ rw (← is.size, is.parts) (take_at piece rest (length piece) refl) in
-    let left : drop 512 input ≡ rest = sym (drop_least 512 input) ∙ rw (← is.size, is.parts) (drop_at piece rest (length piece) refl) in
+    let first : take 512 input ≡ piece = sym (take_min 512 input) ∙ rw (← is.size, is.parts) (take_at piece rest (length piece) refl) in
+    let left : drop 512 input ≡ rest = sym (drop_min 512 input) ∙ rw (← is.size, is.parts) (drop_at piece rest (length piece) refl) in
     rw (← first, ← left) (first_piece input is.some)
 
 -- ---- how an input is cut, and the bytes of its pieces

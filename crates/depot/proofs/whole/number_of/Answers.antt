@@ -19,7 +19,7 @@ use Rattle.numbers.proofs.Laws.Bias.{admissible}
 use Rattle.numbers.proofs.Laws.Words.{top_first}
 use Rattle.depot.specs.Figures.{whole}
 use Rattle.depot.proofs.whole.number_of.Goals as goal
-use Rattle.depot.proofs.whole.number_of.Goals.{Else-n-eq0}
+use Rattle.depot.proofs.whole.number_of.Goals.{After-from-word}
 
 of_zero : (n : ℕ) → n ≡ 0 → (is_admissible Zero ≡ true) × Equal (value Zero) (whole n)
 unfolding is_fit Equal value whole
@@ -42,8 +42,8 @@ module _ (z n : ℕ) (few : z ≤ 63) (low : 2 ^ 63 ≤ n * 2 ^ z) (high : n * 2
   made = rw (to_z_pos w32 {n = 63 - z} (omega arith), mod-eq_of_lt high) (admissible_is, is_whole)
 
 -- the zeros, which are few
-few : (c : Else-n-eq0) → count_leading_zeros 64 c.args.n ≤ 63
-few c = (top_first _ c.if-n-eq0.false (omega arith)).0
+few : (c : After-from-word) → count_leading_zeros 64 c.from-word.result ≤ 63
+few c = rw c.from-word.ensures (top_first _ c.if-n-eq0.false (omega arith)).0
 
 pub returns-then-n-eq0 : goal.returns-then-n-eq0
 returns-then-n-eq0 c = of_zero _ c.if-n-eq0.true
@@ -61,4 +61,6 @@ pub overflow_shl-result : goal.overflow_shl-result
 overflow_shl-result c = omega (arith, few c)
 
 pub returns : goal.returns
-returns c = let m = top_first _ c.if-n-eq0.false (omega arith) in made _ _ m.0 m.1 m.2
+returns c =
+    rw c.from-word.ensures
+    (let m = top_first _ c.if-n-eq0.false (omega arith) in made _ _ m.0 m.1 m.2)

@@ -1,6 +1,5 @@
 -- `division::quotient::divided` meets its contract: the quotient lies in the cell of its digits (Laws.Rounds). Zero over anything is zero.
-use Rattle.std.proofs.Common.{◌≡◌, false, sym, ap, ◌∙◌, w32, SFits, rules}
-use mathlib.Core.Bool.{false≢true}
+use Rattle.std.proofs.Common.{◌≡◌, sym, ◌∙◌, w32, SFits, rules}
 use Rattle.std.specs.Prelude.{Ok}
 use Rattle.numbers.specs.Accuracy.{marked_answer, marked_by}
 use Rattle.numbers.specs.Fraction.{value, quotient}
@@ -11,18 +10,13 @@ use Rattle.numbers.specs.declared.task.Task.{Task}
 use Rattle.numbers.proofs.Laws.Fractions.{quotient_zero}
 use Rattle.numbers.proofs.Laws.Marked.{zero_mark}
 use Rattle.numbers.proofs.Laws.Scaled.{zero_value}
-use Rattle.division.specs.Quotient.{is_zero}
+use Rattle.division.proofs.Laws.Divisible.{not_zero}
 use Rattle.division.proofs.Laws.Rounds.{both_significands, difference_fits, less_fits, exponent_is, quotient_rounds}
 use Rattle.division.proofs.quotient.divided.Goals as goal
 
 zero_dividend : (task : Task) (p d : Number) → p ≡ Zero → marked_answer (Ok (record { number = Zero; accuracy = accuracy.Exact })) ≡ marked_by task (quotient (value p) (value d))
 unfolding marked_answer
 zero_dividend task p d is = rw is (sym (zero_mark task (quotient (value Zero) (value d)) (quotient_zero (value Zero) (value d) zero_value)))
-
--- a divisor is not zero
-not_zero : (d : Number) → d ≡ Zero → is_zero d ≡ false → ⊥
-unfolding is_zero
-not_zero d is h = false≢true (sym h ∙ ap is_zero is)
 
 pub returns-in_default : goal.returns-in_default
 returns-in_default c = zero_dividend _ _ _ c.in_default.is

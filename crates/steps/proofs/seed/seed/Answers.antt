@@ -1,6 +1,6 @@
 -- `steps::seed::seed` meets its contract: the entry is exact in eight bits, and the exponent is −1 less the divisor's.
 use mathlib.Core.Path.{◌≡◌, sym, subst, ap, ap₂, ◌∙◌}
-use mathlib.Core.Bool.{Bool, true, false, false≢true}
+use mathlib.Core.Bool.{Bool, true, false}
 use Prim.Native.Nat.{ℕ, ◌+◌, ◌-◌, ◌*◌, ◌%◌, ◌^◌, ◌≤◌, ◌<◌}
 use native.Mathlib.Nat.{mod-eq_of_lt}
 use native.Mathlib.Omega.{arith}
@@ -21,19 +21,14 @@ use Rattle.numbers.proofs.Laws.Minus.{minus_same, minus_minus}
 use Rattle.numbers.proofs.Laws.Same.{same_number}
 use Rattle.numbers.proofs.Laws.SignedWords.{minus_fits}
 use Rattle.numbers.proofs.Laws.Scaled.{origin_is, working_scaled, coarser, equal_scaled}
-use Rattle.division.specs.Quotient.{is_zero}
 use Rattle.division.specs.Seed.{index_of}
 use Rattle.division.proofs.Laws.Admissible.{admissible_parts}
+use Rattle.division.proofs.Laws.Divisible.{not_zero}
 use Rattle.division.proofs.Laws.Seeds.{entry_for, entry_range, index_below}
 use Rattle.division.proofs.Laws.Range.{InRange, IsBounded, lowest_admissible}
 use Rattle.steps.specs.Steps.{seed}
 use Rattle.steps.proofs.Laws.SeedStep.{seed_step}
 use Rattle.steps.proofs.seed.seed.Goals as goal
-
--- a divisor is not zero
-not_zero : (d : Number) → d ≡ Zero → is_zero d ≡ false → ⊥
-unfolding is_zero
-not_zero d is h = false≢true (sym h ∙ ap is_zero is)
 
 module _ (d : Number) (s : Bool) (e : ℤ) (S : ℕ) (is : d ≡ Finite s e S) (fit : is_admissible d ≡ true) (fits : SFits w32 e) where
   parts : IsBounded lowest_admissible (Finite s e S)
@@ -85,9 +80,9 @@ unreachable-requires c = not_zero _ c.in-Zero.is c.args.d.nonzero
 pub invariant_of-result : goal.invariant_of-result
 invariant_of-result c =
     let fits : SFits w32 c.in-Finite.exponent = search rules in
-    record { fit = (seeded _ _ _ _ c.in-Finite.is c.args.d.fit fits c.entry_for.result c.entry_for.ensures).1 }
+    record { fit = (seeded _ _ _ _ c.in-Finite.is c.args.d.fit fits _ (c.from.ensures ∙ c.entry_for.ensures)).1 }
 
 pub returns : goal.returns
 returns c =
     let fits : SFits w32 c.in-Finite.exponent = search rules in
-    (seeded _ _ _ _ c.in-Finite.is c.args.d.fit fits c.entry_for.result c.entry_for.ensures).0
+    (seeded _ _ _ _ c.in-Finite.is c.args.d.fit fits _ (c.from.ensures ∙ c.entry_for.ensures)).0

@@ -1,5 +1,5 @@
 -- `division::significands::Divisor::new` meets its contract: the seed is near, and each step is nearer (Laws.DigitWords).
-use Rattle.std.proofs.Common.{◌≡◌, ℕ, ◌*◌, ◌^◌, ap}
+use Rattle.std.proofs.Common.{◌≡◌, ℕ, ◌*◌, ◌^◌, ap, ◌∙◌}
 use Rattle.division.specs.Words.{IsSignificand, refined_word, HasProducts, IsReciprocalWord}
 use Rattle.division.proofs.Laws.Seeds.{entry_for}
 use Rattle.division.proofs.Laws.DigitWords.{rounded_up, seed_near, products, next, reciprocal_word}
@@ -16,13 +16,13 @@ module _ (D T : ℕ) (d : IsSignificand D) (entry : T ≡ entry_for D) where
   twice x y e f = rw (f, e) (reciprocal_word D d (T * 2 ^ 24) (ap (λ (n : ℕ). n * 2 ^ 24) entry))
 
 pub refined-once-requires : goal.refined-once-requires
-refined-once-requires c = first _ _ c.args.d.in_range c.entry_for.ensures
+refined-once-requires c = first _ _ c.args.d.in_range (c.from-seed.ensures ∙ c.entry_for.ensures)
 
 pub refined-requires : goal.refined-requires
-refined-requires c = second _ _ c.args.d.in_range c.entry_for.ensures _ c.refined-once.ensures
+refined-requires c = second _ _ c.args.d.in_range (c.from-seed.ensures ∙ c.entry_for.ensures) _ c.refined-once.ensures
 
 pub invariant_of-result : goal.invariant_of-result
 invariant_of-result c = record {
   significand = c.args.d.in_range;
-  near = twice _ _ c.args.d.in_range c.entry_for.ensures _ _ c.refined-once.ensures c.refined.ensures;
+  near = twice _ _ c.args.d.in_range (c.from-seed.ensures ∙ c.entry_for.ensures) _ _ c.refined-once.ensures c.refined.ensures;
 }

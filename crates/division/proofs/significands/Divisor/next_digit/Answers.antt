@@ -54,4 +54,5 @@ overflow_sub-left1 c = taken_off c.args.self.significand c.args.self.near c.requ
 
 pub returns : goal.returns
 returns c =
-    is_quotient c.args.self.significand c.args.self.near c.requires _ (omega arith) (wrapped _ _ _ (omega arith) c.args.self.significand.word)
+    rw c.from-correction.ensures
+    (is_quotient c.args.self.significand c.args.self.near c.requires _ (omega arith) (wrapped _ _ _ (omega arith) c.args.self.significand.word))

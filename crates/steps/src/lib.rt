@@ -1,7 +1,16 @@
 // The thirty-two steps of source document 001: `wanted` has the value after any step.
 #![tactic(auto)]
 
-mod digit;
+// Ends a run of the lines at the wanted one, with its value.
+macro_rules! return_at {
+    ($is_wanted:expr, $line:expr) => {
+        if $is_wanted {
+            return $line;
+        }
+    };
+}
+
+mod halves;
 mod line;
 mod operands;
 mod reciprocal;

@@ -1,17 +1,16 @@
 // All thirty-two steps: the value after any one of them, for board testers.
-ghost use Rattle.std.specs.Prelude.{◌≡◌, true, map, []};
+ghost use Rattle.std.specs.Prelude.{◌≡◌, true, ◌≤◌};
 ghost use Rattle.numbers.specs.Answer.{answer_outcome};
 ghost use Rattle.numbers.specs.Number.{is_admissible};
 ghost use Rattle.steps.specs.Run.{line_outcome};
 ghost use Rattle.steps.specs.Wanted.{is_step, step_of};
-ghost use Rattle.steps.specs.Steps.{lines, worked_out};
+ghost use Rattle.steps.specs.Steps.{after_step};
 
-use super::digit::Parts;
+use super::halves::{high_half, low_half};
 use super::line::{combined, rounded};
 use super::operands::{Divisor, Line, Working};
-use super::reciprocal::refined;
-use super::seed::seed;
-use super::tasks::{AWAY_24, AWAY_32, EXACT_32, EXACT_64, LineTask, STICKY_64, TRUNC_24, TRUNC_32};
+use super::reciprocal::reciprocal;
+use super::tasks::{AWAY_24, EXACT_64, LineTask, STICKY_64, TRUNC_24, TRUNC_32};
 use arithmetic::operation::Operation;
 use division::judgement::judged;
 use numbers::number::Number;
@@ -33,8 +32,7 @@ pub fn step(p: Number, d: Number, code: u32, precision: u32, wanted: u32) -> Res
     let task = LineTask {
         task: task_of(code, precision),
     };
-    let values = steps(p, Divisor { number: d }, task);
-    let value = values[wanted as usize - 1]?;
+    let value = value_after(p, Divisor { number: d }, task, wanted)?;
     Ok(value.number)
 }
 
@@ -47,43 +45,68 @@ fn is_step(wanted: u32) -> bool
     (1..=LAST_STEP).contains(&wanted)
 }
 
-// The values after all the steps, by their names in Figure 1 of source document 001.
-fn steps(p: Number, d: Divisor, task: LineTask) -> [Line; 32]
-    requires { is_admissible p ≡ true }
-    ensures { map line_outcome result ≡ worked_out p d.number (lines task.task) [] }
+// The value after the wanted step, with nothing to refuse: the lines by their names in Figure 1 of source
+// document 001, up to the wanted one.
+fn value_after(p: Number, d: Divisor, task: LineTask, wanted: u32) -> Line
+    requires { (is_admissible p ≡ true) × (1 ≤ wanted) × (wanted ≤ 32) }
+    ensures { line_outcome result ≡ after_step p d.number task.task wanted }
 {
-    let dividend = Ok(Working { number: p });
-    let divisor = Ok(Working { number: d.number });
-    // Steps 1 to 6: the reciprocal, a seed refined twice.
-    let sd0 = Ok(seed(d));
-    let dr = rounded(divisor, AWAY_32);
-    let sdd0 = combined(Operation::Product, sd0, dr, AWAY_32);
-    let sd1 = refined(sd0, sdd0);
-    let sdd1 = combined(Operation::Product, sd1, dr, AWAY_32);
-    let sd2 = refined(sd1, sdd1);
-    // Steps 7 to 9: the halves of the divisor, and the first remainder.
-    let dh = rounded(divisor, TRUNC_32);
-    let dl = combined(Operation::Difference, divisor, dh, EXACT_32);
-    let p0 = rounded(dividend, EXACT_64);
+    // Steps 1 to 8 take nothing of the dividend, and steps 7 to 9 nothing of those before 7.
+    if wanted <= 6 {
+        return reciprocal(d, wanted);
+    }
+    return_at!(wanted == 7, high_half(d));
+    return_at!(wanted == 8, low_half(d, high_half(d)));
+    let p0 = rounded(Ok(Working { number: p }), EXACT_64);
+    return_at!(wanted == 9, p0);
+    let sd2 = reciprocal(d, 6);
+    let dh = high_half(d);
+    let dl = low_half(d, dh);
     // Steps 10 to 29: four digits.
-    let parts = Parts {
-        reciprocal: sd2,
-        high: dh,
-        low: dl,
-    };
-    let (ph0, q0) = parts.digit(p0, AWAY_24);
-    let (qdh0, qdl0, pt1, p1) = parts.left(p0, q0);
-    let (ph1, q1) = parts.digit(p1, AWAY_24);
-    let (qdh1, qdl1, pt2, p2) = parts.left(p1, q1);
-    let (ph2, q2) = parts.digit(p2, AWAY_24);
-    let (qdh2, qdl2, pt3, p3) = parts.left(p2, q2);
-    let (ph3, q3) = parts.digit(p3, TRUNC_24);
+    let ph0 = rounded(p0, TRUNC_32);
+    return_at!(wanted == 10, ph0);
+    let q0 = combined(Operation::Product, ph0, sd2, AWAY_24);
+    return_at!(wanted == 11, q0);
+    let qdh0 = combined(Operation::Product, q0, dh, EXACT_64);
+    return_at!(wanted == 12, qdh0);
+    let qdl0 = combined(Operation::Product, q0, dl, EXACT_64);
+    return_at!(wanted == 13, qdl0);
+    let pt1 = combined(Operation::Difference, p0, qdh0, EXACT_64);
+    return_at!(wanted == 14, pt1);
+    let p1 = combined(Operation::Difference, pt1, qdl0, EXACT_64);
+    return_at!(wanted == 15, p1);
+    let ph1 = rounded(p1, TRUNC_32);
+    return_at!(wanted == 16, ph1);
+    let q1 = combined(Operation::Product, ph1, sd2, AWAY_24);
+    return_at!(wanted == 17, q1);
+    let qdh1 = combined(Operation::Product, q1, dh, EXACT_64);
+    return_at!(wanted == 18, qdh1);
+    let qdl1 = combined(Operation::Product, q1, dl, EXACT_64);
+    return_at!(wanted == 19, qdl1);
+    let pt2 = combined(Operation::Difference, p1, qdh1, EXACT_64);
+    return_at!(wanted == 20, pt2);
+    let p2 = combined(Operation::Difference, pt2, qdl1, EXACT_64);
+    return_at!(wanted == 21, p2);
+    let ph2 = rounded(p2, TRUNC_32);
+    return_at!(wanted == 22, ph2);
+    let q2 = combined(Operation::Product, ph2, sd2, AWAY_24);
+    return_at!(wanted == 23, q2);
+    let qdh2 = combined(Operation::Product, q2, dh, EXACT_64);
+    return_at!(wanted == 24, qdh2);
+    let qdl2 = combined(Operation::Product, q2, dl, EXACT_64);
+    return_at!(wanted == 25, qdl2);
+    let pt3 = combined(Operation::Difference, p2, qdh2, EXACT_64);
+    return_at!(wanted == 26, pt3);
+    let p3 = combined(Operation::Difference, pt3, qdl2, EXACT_64);
+    return_at!(wanted == 27, p3);
+    let ph3 = rounded(p3, TRUNC_32);
+    return_at!(wanted == 28, ph3);
+    let q3 = combined(Operation::Product, ph3, sd2, TRUNC_24);
+    return_at!(wanted == 29, q3);
     // Steps 30 to 32: their sum.
     let qq2 = combined(Operation::Sum, q2, q3, STICKY_64);
+    return_at!(wanted == 30, qq2);
     let qq1 = combined(Operation::Sum, qq2, q1, STICKY_64);
-    let divide = combined(Operation::Sum, qq1, q0, task);
-    [
-        sd0, dr, sdd0, sd1, sdd1, sd2, dh, dl, p0, ph0, q0, qdh0, qdl0, pt1, p1, ph1, q1, qdh1,
-        qdl1, pt2, p2, ph2, q2, qdh2, qdl2, pt3, p3, ph3, q3, qq2, qq1, divide,
-    ]
+    return_at!(wanted == 31, qq1);
+    combined(Operation::Sum, qq1, q0, task)
 }

@@ -1,6 +1,6 @@
 -- `steps::seed::seed` meets its contract: the entry is exact in eight bits, and the exponent is −1 less the divisor's.
 use mathlib.Core.Path.{◌≡◌, sym, subst, ap, ap₂, ◌∙◌}
-use mathlib.Core.Bool.{Bool, true, false}
+use mathlib.Core.Bool.{Bool, true}
 use Prim.Native.Nat.{ℕ, ◌+◌, ◌-◌, ◌*◌, ◌%◌, ◌^◌, ◌≤◌, ◌<◌}
 use native.Mathlib.Nat.{mod-eq_of_lt}
 use native.Mathlib.Omega.{arith}
@@ -15,7 +15,7 @@ use Rattle.numbers.specs.Answer.{given, rounded}
 use Rattle.numbers.specs.Number.{is_working, is_admissible}
 use Rattle.numbers.specs.Rounding.{claim}
 use Rattle.numbers.specs.declared.number.Number.{Number}
-use Rattle.numbers.specs.declared.number.Number.TheVariants.{Zero, Finite}
+use Rattle.numbers.specs.declared.number.Number.TheVariants.{Finite}
 use Rattle.numbers.proofs.Laws.Working.{finite_working}
 use Rattle.numbers.proofs.Laws.Minus.{minus_same, minus_minus}
 use Rattle.numbers.proofs.Laws.Same.{same_number}

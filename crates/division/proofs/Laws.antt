@@ -11,3 +11,4 @@ pub mod Newton
 -- The quotient of two significands, and its rounding
 pub mod DigitWords
 pub mod Rounds
+pub mod Rows

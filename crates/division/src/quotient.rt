@@ -1,5 +1,6 @@
 // The quotient, rounded once. It runs on words, apart from the thirty-two steps; the theorem joins the two.
-ghost use Rattle.std.specs.Prelude.{◌≡◌, true, false};
+ghost use Rattle.std.specs.Prelude.{◌≡◌, ◌≤◌, true, false, IfErr};
+ghost use Rattle.refusals.specs.Row.{row_number};
 ghost use Rattle.numbers.specs.Accuracy.{marked, marked_by, marked_answer};
 ghost use Rattle.numbers.specs.Fraction.{value, quotient};
 ghost use Rattle.numbers.specs.Number.{is_admissible};
@@ -19,9 +20,10 @@ use refusals::Refusal;
 const FRACTION_BITS: i32 = 81;
 
 // p / d, rounded by the mode code and the precision and marked by where it lies against p / d, or the
-// lowest refusal that applies.
+// lowest refusal that applies. No row above 5 refuses a quotient.
 pub fn divide(p: Number, d: Number, code: u32, precision: u32) -> Result<Rounded, Refusal>
-    ensures { marked_answer result ≡ marked (quotient (value p) (value d)) (quotient_of p d code precision) }
+    ensures told { marked_answer result ≡ marked (quotient (value p) (value d)) (quotient_of p d code precision) }
+    ensures rows { IfErr result (λ refusal. row_number refusal ≤ 5) }
 {
     judged(p, d, code, precision)?;
     divided(p, d, task_of(code, precision))

@@ -8,7 +8,7 @@ use Rattle.depot.proofs.figures.mean.Goals.{After-divide}
 
 -- what the division gives
 given : (c : After-divide) → IsGivenAs c.divide.result (mean_of (mode_of c.args.side) c.args.total c.args.moved)
-given c = mean_given _ _ _ _ _ c.code.ensures c.requires.0 c.requires.1 (omega arith) c.number_of.ensures _ c.divide.ensures
+given c = mean_given _ _ _ _ _ c.code.ensures c.requires.0 c.requires.1 (omega arith) c.number_of.ensures _ c.divide.ensures.told
 
 pub unwrap-mean-requires : goal.unwrap-mean-requires
 unwrap-mean-requires c = given_ok _ _ (given (goal.at-unwrap-mean-requires c).After-divide)

@@ -10,6 +10,7 @@ use Rattle.numbers.specs.declared.task.Task.{Task}
 use Rattle.division.specs.Quotient.{quotient_of}
 use Rattle.division.specs.Judgement.{IsTaken}
 use Rattle.division.proofs.Laws.Divisible.{taken_task, quotient_taken, divisible_taken}
+use Rattle.division.proofs.Laws.Rows.{quotient_rows, answer_rows}
 use Rattle.division.proofs.quotient.divide.Goals as goal
 use Rattle.division.proofs.quotient.divide.Goals.{In_ok-judged}
 
@@ -17,7 +18,7 @@ pub returns-in_err-judged : goal.returns-in_err-judged
 unfolding marked marked_answer quotient_of unless_refused
 returns-in_err-judged c =
     let p = err_from_is_err_and c.from_residual.result c.from_residual.ensures.1 in
-    rw (p.1, p.2) (ap (marked _) (c.in_err-judged.ensures _))
+    rw (p.1, p.2) (record { told = ap (marked _) (c.in_err-judged.ensures _); rows = quotient_rows c.args.p c.args.d c.args.code c.args.precision _ (sym (c.in_err-judged.ensures _)) })
 
 is_taken : (c : In_ok-judged) → IsTaken c.args.p c.args.d c.args.code c.args.precision
 unfolding unless_refused
@@ -35,4 +36,6 @@ divided-requires c =
     (is.dividend, is.divisor, is.nonzero, taken_task is c.task_of.ensures)
 
 pub returns : goal.returns
-returns c = answer_is (is_taken c.before.before) c.task_of.ensures c.divided.ensures
+returns c =
+    let told = answer_is (is_taken c.before.before) c.task_of.ensures c.divided.ensures in
+    record { told = told; rows = answer_rows _ _ _ _ _ _ told }

@@ -22,5 +22,6 @@ pub(crate) fn low_half(d: Divisor, high: Line) -> Line
     requires { (p : Number) (task : Task) → line_outcome high ≡ after_step p d.number task 7 }
     ensures { (p : Number) (task : Task) → line_outcome result ≡ after_step p d.number task 8 }
 {
-    combined(Operation::Difference, d.line(), high, EXACT_32)
+    let divisor = d.line();
+    combined(Operation::Difference, divisor, high, EXACT_32)
 }

@@ -45,24 +45,32 @@ fn is_step(wanted: u32) -> bool
     (1..=LAST_STEP).contains(&wanted)
 }
 
-// The value after the wanted step, with nothing to refuse: the lines by their names in Figure 1 of source
-// document 001, up to the wanted one.
+// The value after the wanted step, with nothing to refuse. Here and where it leads, the lines stand by their
+// names in Figure 1 of source document 001, and a run of them ends at the wanted one.
 fn value_after(p: Number, d: Divisor, task: LineTask, wanted: u32) -> Line
     requires { (is_admissible p ≡ true) × (1 ≤ wanted) × (wanted ≤ 32) }
     ensures { line_outcome result ≡ after_step p d.number task.task wanted }
 {
-    // Steps 1 to 8 take nothing of the dividend, and steps 7 to 9 nothing of those before 7.
     if wanted <= 6 {
         return reciprocal(d, wanted);
     }
     return_at!(wanted == 7, high_half(d));
     return_at!(wanted == 8, low_half(d, high_half(d)));
+    digits(p, d, task, wanted)
+}
+
+// The value after one of the steps 9 to 32: the first remainder, four digits and their sum.
+fn digits(p: Number, d: Divisor, task: LineTask, wanted: u32) -> Line
+    requires { (is_admissible p ≡ true) × (9 ≤ wanted) × (wanted ≤ 32) }
+    ensures { line_outcome result ≡ after_step p d.number task.task wanted }
+{
     let p0 = rounded(Ok(Working { number: p }), EXACT_64);
     return_at!(wanted == 9, p0);
+    // Steps 6 to 8.
     let sd2 = reciprocal(d, 6);
     let dh = high_half(d);
     let dl = low_half(d, dh);
-    // Steps 10 to 29: four digits.
+    // Steps 10 to 15.
     let ph0 = rounded(p0, TRUNC_32);
     return_at!(wanted == 10, ph0);
     let q0 = combined(Operation::Product, ph0, sd2, AWAY_24);
@@ -75,6 +83,7 @@ fn value_after(p: Number, d: Divisor, task: LineTask, wanted: u32) -> Line
     return_at!(wanted == 14, pt1);
     let p1 = combined(Operation::Difference, pt1, qdl0, EXACT_64);
     return_at!(wanted == 15, p1);
+    // Steps 16 to 21.
     let ph1 = rounded(p1, TRUNC_32);
     return_at!(wanted == 16, ph1);
     let q1 = combined(Operation::Product, ph1, sd2, AWAY_24);
@@ -87,6 +96,7 @@ fn value_after(p: Number, d: Divisor, task: LineTask, wanted: u32) -> Line
     return_at!(wanted == 20, pt2);
     let p2 = combined(Operation::Difference, pt2, qdl1, EXACT_64);
     return_at!(wanted == 21, p2);
+    // Steps 22 to 27.
     let ph2 = rounded(p2, TRUNC_32);
     return_at!(wanted == 22, ph2);
     let q2 = combined(Operation::Product, ph2, sd2, AWAY_24);
@@ -99,11 +109,12 @@ fn value_after(p: Number, d: Divisor, task: LineTask, wanted: u32) -> Line
     return_at!(wanted == 26, pt3);
     let p3 = combined(Operation::Difference, pt3, qdl2, EXACT_64);
     return_at!(wanted == 27, p3);
+    // Steps 28 and 29.
     let ph3 = rounded(p3, TRUNC_32);
     return_at!(wanted == 28, ph3);
     let q3 = combined(Operation::Product, ph3, sd2, TRUNC_24);
     return_at!(wanted == 29, q3);
-    // Steps 30 to 32: their sum.
+    // Steps 30 to 32: the sum of the digits.
     let qq2 = combined(Operation::Sum, q2, q3, STICKY_64);
     return_at!(wanted == 30, qq2);
     let qq1 = combined(Operation::Sum, qq2, q1, STICKY_64);

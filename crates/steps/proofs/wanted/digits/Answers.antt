@@ -1,12 +1,12 @@
--- `steps::wanted::value_after` meets its contract: each call is the line of its step, and the wanted one is returned.
+-- `steps::wanted::digits` meets its contract: each call is the line of its step, and the wanted one is returned.
 use Rattle.std.proofs.Common.{◌≡◌, sym, ◌∙◌, arith}
 use Rattle.division.proofs.Laws.Admissible.{admissible_working}
 use Rattle.steps.specs.Run.{line_outcome}
 use Rattle.steps.specs.Steps.{after_step}
 use Rattle.steps.proofs.Laws.Run.{one, both}
 use Rattle.steps.proofs.TableLines.{fourth_digit, line_9, line_10, line_11, line_12, line_13, line_14, line_15, line_16, line_17, line_18, line_19, line_20, line_21, line_22, line_23, line_24, line_25, line_26, line_27, line_28, line_30, line_31, line_32}
-use Rattle.steps.proofs.wanted.value_after.Goals as goal
-use Rattle.steps.proofs.wanted.value_after.Goals.{After-combined-p1, After-combined-p2, After-combined-p3, After-combined-pt1, After-combined-pt2, After-combined-pt3, After-combined-q0, After-combined-q1, After-combined-q2, After-combined-q3, After-combined-qdh0, After-combined-qdh1, After-combined-qdh2, After-combined-qdl0, After-combined-qdl1, After-combined-qdl2, After-combined-qq1, After-combined-qq2, After-rounded-p0, After-rounded-ph0, After-rounded-ph1, After-rounded-ph2, After-rounded-ph3}
+use Rattle.steps.proofs.wanted.digits.Goals as goal
+use Rattle.steps.proofs.wanted.digits.Goals.{After-combined-p1, After-combined-p2, After-combined-p3, After-combined-pt1, After-combined-pt2, After-combined-pt3, After-combined-q0, After-combined-q1, After-combined-q2, After-combined-q3, After-combined-qdh0, After-combined-qdh1, After-combined-qdh2, After-combined-qdl0, After-combined-qdl1, After-combined-qdl2, After-combined-qq1, After-combined-qq2, After-rounded-p0, After-rounded-ph0, After-rounded-ph1, After-rounded-ph2, After-rounded-ph3}
 
 pub invariant_of-rounded : goal.invariant_of-rounded
 invariant_of-rounded c = record { fit = admissible_working c.args.p c.requires.0 }

@@ -5,16 +5,29 @@ use lines::input;
 // The most numbers of a list: as many as 205 blocks full of vans have, and no depot takes so many.
 pub const MOST: usize = 20_500;
 
-// The list of so many next numbers of the input, if that has them.
-pub fn read(count: usize) -> Option<ArrayVec<u32, MOST>> {
+// The numbers of a list.
+pub type List = ArrayVec<u32, MOST>;
+
+// Reads so many next numbers of the input over the list, if that has room for them. Where the input ends
+// before, the list has as many numbers as it had, the first ones those that were read.
+pub fn read(list: &mut List, count: usize) -> Option<()> {
     if count > MOST {
         return None;
     }
-    let mut list = ArrayVec::new();
-    for _ in 0..count {
-        list.push(read_number()?);
+    let before = list.len();
+    for i in 0..count {
+        let Some(number) = read_number() else {
+            list.truncate(before);
+            return None;
+        };
+        if i < list.len() {
+            list[i] = number;
+        } else {
+            list.push(number);
+        }
     }
-    Some(list)
+    list.truncate(count);
+    Some(())
 }
 
 fn read_number() -> Option<u32> {

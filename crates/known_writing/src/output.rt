@@ -14,16 +14,19 @@ const LINE_BYTES: usize = 32;
 // The pattern has no zeros, and a period that does not divide a block.
 const PERIOD: usize = 251;
 
-// So many bytes of the pattern, if an output has room for them.
-pub fn pattern(count: usize) -> Option<ArrayVec<u8, MOST>> {
+// The bytes of an output.
+pub type Output = ArrayVec<u8, MOST>;
+
+// Makes an output of so many bytes of the pattern, if it has room for them.
+pub fn fill(bytes: &mut Output, count: usize) -> Option<()> {
     if count > MOST {
         return None;
     }
-    let mut bytes = ArrayVec::new();
+    bytes.clear();
     for i in 0..count {
         bytes.push((i % PERIOD + 1) as u8);
     }
-    Some(bytes)
+    Some(())
 }
 
 // Prints how many bytes there are, and all of them, or their hash if they are many.

@@ -1,5 +1,7 @@
 // Makes a call and prints what it answers and leaves.
 use super::call::Call;
+use super::list::List;
+use super::output::Output;
 use super::{list, output};
 use arrayvec::ArrayVec;
 use blocks::judgement::BLOCK_BYTES;
@@ -14,8 +16,8 @@ use writing::writer::write_blocks;
 // The list, the output, and the edition that is asked for.
 #[derive(Drop)]
 pub struct State {
-    list: ArrayVec<u32, { list::MOST }>,
-    output: ArrayVec<u8, { output::MOST }>,
+    list: List,
+    output: Output,
     edition: u32,
 }
 
@@ -36,7 +38,7 @@ pub fn answer(call: Call, state: &mut State) -> Option<()> {
     match call {
         // The output of the list before is gone, and edition 0 is asked for.
         Call::List(count) => {
-            state.list = list::read(count as usize)?;
+            list::read(&mut state.list, count as usize)?;
             state.output.clear();
             state.edition = 0;
             out::line(format_args!("list {count}"));
@@ -47,11 +49,10 @@ pub fn answer(call: Call, state: &mut State) -> Option<()> {
         }
         Call::Write { numbers, bytes } => {
             let fields = state.list.get(..numbers as usize)?;
-            let mut output = output::pattern(bytes as usize)?;
-            let answer = write_blocks(state.edition, fields, &mut output);
+            output::fill(&mut state.output, bytes as usize)?;
+            let answer = write_blocks(state.edition, fields, &mut state.output);
             out::line(Answer(answer.map(|()| "written")));
-            output::print(&output);
-            state.output = output;
+            output::print(&state.output);
         }
         Call::Load => {
             let mut depot = Depot::fresh();

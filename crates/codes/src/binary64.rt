@@ -2,7 +2,7 @@
 // The leading one of a normal number is not stored.
 ghost use Rattle.std.specs.Prelude.{◌≡◌};
 ghost use Rattle.codes.specs.Codes.{binary64};
-ghost use Rattle.codes.specs.Formats.{binary64_format};
+ghost use Rattle.codes.specs.Formats.{binary64_format, binary64_fields};
 
 use super::code::Format;
 use super::coded::Coded;
@@ -46,7 +46,11 @@ impl Layout for Binary64 {
 
     ghost FORMAT = { binary64 };
 
+    ghost FIELDS = { 2048 };
+
     ghost formed = { binary64_format };
+
+    ghost fields_are = { binary64_fields };
 
     const FORMAT: Format = Format {
         length: Self::LENGTH,
@@ -56,6 +60,8 @@ impl Layout for Binary64 {
         lowest: Self::LOWEST,
         highest: Self::HIGHEST,
     };
+
+    const FIELDS: u32 = 0x800;
 
     // The code in eight bytes.
     fn from_bytes(bytes: &[u8]) -> Binary64 {
@@ -67,8 +73,8 @@ impl Layout for Binary64 {
         little_endian::write(bytes, self.bits);
     }
 
-    fn from_upper(upper: u32, stored: u64) -> Binary64 {
-        Self::from_bits(u64::from(upper) * FRACTIONS + stored)
+    fn from_upper(upper: u32, significand: u64) -> Binary64 {
+        Self::from_bits(u64::from(upper) * FRACTIONS + significand % FRACTIONS)
     }
 
     fn upper(self) -> u32 {

@@ -2,7 +2,7 @@
 // explicit top bit, 15 exponent bits and the sign bit.
 ghost use Rattle.std.specs.Prelude.{◌≡◌};
 ghost use Rattle.codes.specs.Codes.{double_extended, bits_of};
-ghost use Rattle.codes.specs.Formats.{double_extended_format};
+ghost use Rattle.codes.specs.Formats.{double_extended_format, double_extended_fields};
 
 use super::code::Format;
 use super::coded::Coded;
@@ -46,7 +46,11 @@ impl Layout for DoubleExtended {
 
     ghost FORMAT = { double_extended };
 
+    ghost FIELDS = { 32768 };
+
     ghost formed = { double_extended_format };
+
+    ghost fields_are = { double_extended_fields };
 
     const FORMAT: Format = Format {
         length: Self::LENGTH,
@@ -56,6 +60,8 @@ impl Layout for DoubleExtended {
         lowest: Self::LOWEST,
         highest: Self::HIGHEST,
     };
+
+    const FIELDS: u32 = 0x8000;
 
     // The code in ten bytes.
     #[tactic(auto, unfolding(crate::specs::Codes::double_extended))]
@@ -72,8 +78,8 @@ impl Layout for DoubleExtended {
         little_endian::write(&mut bytes[8..], u64::from(self.upper));
     }
 
-    fn from_upper(upper: u32, stored: u64) -> DoubleExtended {
-        Self::from_bits(upper as u16, stored)
+    fn from_upper(upper: u32, significand: u64) -> DoubleExtended {
+        Self::from_bits(upper as u16, significand)
     }
 
     fn upper(self) -> u32 {

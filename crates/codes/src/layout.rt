@@ -18,6 +18,11 @@ pub(crate) trait Layout: Copy {
 
     const FORMAT: Format;
 
+    // How many exponent fields there are.
+    ghost FIELDS: { ℕ };
+
+    const FIELDS: u32;
+
     // The code in as many bytes as the format has.
     fn from_bytes(bytes: &[u8]) -> Self
         requires { length bytes.now ≡ FORMAT.length }
@@ -28,10 +33,11 @@ pub(crate) trait Layout: Copy {
         requires { length bytes.old ≡ FORMAT.length }
         ensures { bytes.new ≡ bytes_of FORMAT.length (bits self) };
 
-    // The code with this sign and field, `upper`, above these stored bits of a significand.
-    fn from_upper(upper: u32, stored: u64) -> Self
-        requires { (upper < 2 * 2 ^ exponent_bits FORMAT) × (stored < 2 ^ FORMAT.stored) }
-        ensures { bits result ≡ upper * 2 ^ FORMAT.stored + stored };
+    // The code with this sign and field, `upper`, above the stored bits of this significand. A leading
+    // one that is not stored is dropped.
+    fn from_upper(upper: u32, significand: u64) -> Self
+        requires { upper < 2 * 2 ^ exponent_bits FORMAT }
+        ensures { bits result ≡ upper * 2 ^ FORMAT.stored + significand % 2 ^ FORMAT.stored };
 
     // The sign and the field, which stand above the stored bits of the significand.
     fn upper(self) -> u32
@@ -43,4 +49,7 @@ pub(crate) trait Layout: Copy {
 
     // The constants have to do with each other as those of a format do.
     ghost formed: { IsFormat FORMAT };
+
+    // There are as many fields as their bits give.
+    ghost fields_are: { FIELDS ≡ 2 ^ exponent_bits FORMAT };
 }

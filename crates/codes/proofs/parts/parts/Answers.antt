@@ -10,9 +10,10 @@ pub overflow_add-result : goal.overflow_add-result
 overflow_add-result g c =
     let formed = g.met.F.Layout.formed in
     let w = g.F.Layout.bits c.args.code in
-    let room = (leading_room g.F.Layout.FORMAT formed (c.upper-upper.result % c.fields-fields.result) (w % 2 ^ g.F.Layout.FORMAT.stored) (mod-lt w (pow_pos g.F.Layout.FORMAT.stored))).0 in
+    let room = (leading_room g.F.Layout.FORMAT formed (c.upper-upper.result % c.FIELDS.result) (w % 2 ^ g.F.Layout.FORMAT.stored) (mod-lt w (pow_pos g.F.Layout.FORMAT.stored))).0 in
     rw (c.stored.ensures, c.leading_one.ensures) (record { fits = lt_of_lt_of_le room (pow_mono formed.word_bits) })
 
 pub returns : goal.returns
 unfolding split
-returns g c = rw (c.stored.ensures, c.leading_one.ensures, c.upper-upper.ensures, c.fields-fields.ensures)
+returns g c =
+    rw (c.stored.ensures, c.leading_one.ensures, c.upper-upper.ensures, c.FIELDS.ensures, c.FIELDS-2.ensures, g.met.F.Layout.fields_are)

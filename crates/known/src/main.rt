@@ -9,8 +9,11 @@ mod operations;
 mod rounding;
 mod wanted;
 
-use lines::input;
+use lines::input::Lines;
+use lines::line::Line;
 
 fn main() {
-    input::for_each_line(cases::run);
+    for text in Lines::new() {
+        cases::run(Line::new(&text));
+    }
 }

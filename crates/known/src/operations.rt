@@ -10,7 +10,7 @@ use numbers::number::Number;
 use refusals::Refusal;
 
 // Prints the answer of the operation to the case whose token stood before.
-pub fn answer<F>(case: Line, operation: F) -> Option<()>
+pub(crate) fn answer<F>(case: Line, operation: F) -> Option<()>
 where
     F: FnOnce(Number, Number, u32, u32) -> Result<Rounded, Refusal>,
     requires { F.IsAlwaysCallable operation }

@@ -7,8 +7,9 @@ mod run;
 mod state;
 
 use depot::state::Depot;
+use lines::input::Lines;
 use lines::line::Line;
-use lines::{input, out};
+use lines::out;
 
 // Reads the call of a line, makes it and prints its answer, if the line is a call.
 fn answer(line: Line, depot: &mut Depot) -> Option<()> {
@@ -18,10 +19,10 @@ fn answer(line: Line, depot: &mut Depot) -> Option<()> {
 
 fn main() {
     let mut depot = Depot::fresh();
-    input::for_each_line(|line| {
-        if answer(line, &mut depot).is_none() {
+    for text in Lines::new() {
+        if answer(Line::new(&text), &mut depot).is_none() {
             out::line("not a call");
         }
         out::line(state::Shown(depot));
-    });
+    }
 }

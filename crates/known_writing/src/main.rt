@@ -8,8 +8,9 @@ mod list;
 mod output;
 mod run;
 
+use lines::input::Lines;
 use lines::line::Line;
-use lines::{input, out};
+use lines::out;
 use run::State;
 
 // Reads the call of a line, makes it and prints its answer, if the line is a call.
@@ -19,9 +20,9 @@ fn answer(line: Line, state: &mut State) -> Option<()> {
 
 fn main() {
     let mut state = State::new();
-    input::for_each_line(|line| {
-        if answer(line, &mut state).is_none() {
+    for text in Lines::new() {
+        if answer(Line::new(&text), &mut state).is_none() {
             out::line("not a call");
         }
-    });
+    }
 }

@@ -1,22 +1,38 @@
 // Reads standard input.
 ghost use Rattle.io.specs.Counts.{IsPrefixLen};
+ghost use Rattle.std.specs.Iterator.{at_most};
 
-use super::line::{Line, WIDTH};
+use super::line::WIDTH;
 
 // The descriptor of standard input.
 const STDIN_FILENO: i32 = 0;
 
-// Runs `run` on each line of the input. The input ends where no whole line is left.
-// A proved loop has to end, and nothing says that the input does: no run uses up so many turns.
-pub fn for_each_line<F: FnMut(Line)>(mut run: F)
-    requires { F.IsAlwaysCallable run }
-{
-    for _ in 0..u64::MAX {
+// The lines of the input. They end where no whole line is left.
+#[derive(Drop)]
+pub struct Lines {
+    // The turns that are left: a proved loop has to end, and nothing says that the input does.
+    left: u64,
+}
+
+impl Lines {
+    // The lines from where the input stands. No run uses up so many turns.
+    pub fn new() -> Lines {
+        Lines { left: u64::MAX }
+    }
+}
+
+impl Iterator for Lines {
+    type Item = [u8; WIDTH];
+
+    ghost remaining = { λ s. at_most s.left };
+
+    fn next(&mut self) -> Option<[u8; WIDTH]> {
+        self.left = self.left.checked_sub(1)?;
         let mut text = [0; WIDTH];
         if fill(&mut text) < WIDTH {
-            return;
+            return None;
         }
-        run(Line::new(&text));
+        Some(text)
     }
 }
 

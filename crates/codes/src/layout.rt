@@ -23,21 +23,18 @@ pub(crate) trait Layout: Copy {
 
     const FIELDS: u32;
 
-    // The code in as many bytes as the format has.
+    // The code in the bytes, where they are as many as the format has.
     fn from_bytes(bytes: &[u8]) -> Self
-        requires { length bytes.now ≡ FORMAT.length }
-        ensures { bits result ≡ little_endian bytes.now };
+        ensures { length bytes.now ≡ FORMAT.length → bits result ≡ little_endian bytes.now };
 
-    // Puts the code into as many bytes as the format has.
+    // Puts the code into the bytes, where they are as many as the format has.
     fn write_bytes(self, bytes: &mut [u8])
-        requires { length bytes.old ≡ FORMAT.length }
-        ensures { bytes.new ≡ bytes_of FORMAT.length (bits self) };
+        ensures { length bytes.old ≡ FORMAT.length → bytes.new ≡ bytes_of FORMAT.length (bits self) };
 
     // The code with this sign and field, `upper`, above the stored bits of this significand. A leading
-    // one that is not stored is dropped.
+    // one that is not stored is dropped, and so is what `upper` has above the sign.
     fn from_upper(upper: u32, significand: u64) -> Self
-        requires { upper < 2 * 2 ^ exponent_bits FORMAT }
-        ensures { bits result ≡ upper * 2 ^ FORMAT.stored + significand % 2 ^ FORMAT.stored };
+        ensures { upper < 2 * 2 ^ exponent_bits FORMAT → bits result ≡ upper * 2 ^ FORMAT.stored + significand % 2 ^ FORMAT.stored };
 
     // The sign and the field, which stand above the stored bits of the significand.
     fn upper(self) -> u32

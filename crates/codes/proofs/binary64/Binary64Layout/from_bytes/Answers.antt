@@ -9,5 +9,5 @@ use Rattle.codes.proofs.binary64.Binary64Layout.from_bytes.Goals as goal
 
 pub returns : goal.returns
 unfolding IsBytes binary64
-returns c =
-    c.from_bits.ensures ∙ c.read.ensures ∙ read_whole _ (λ (i : ℕ). (c.shared_slice_known-1.given i).fits) (le_of_eq c.requires)
+returns c long =
+    c.from_bits.ensures ∙ c.read.ensures ∙ read_whole _ (λ (i : ℕ). (c.shared_slice_known-1.given i).fits) (le_of_eq long)

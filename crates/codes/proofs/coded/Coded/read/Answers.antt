@@ -13,4 +13,4 @@ pub returns : goal.returns
 unfolding reading_of
 returns g c =
     let long = rw c.FORMAT.ensures at c.if-code-FORMAT.false in
-    rw (eq-eqb _ _ long, ← c.from_bytes.ensures) c.number.ensures
+    rw (eq-eqb _ _ long, ← c.from_bytes.ensures long) c.number.ensures

@@ -14,4 +14,4 @@ returns-in_err-code g c =
 
 pub returns : goal.returns
 unfolding laid packed writing refusal_row
-returns g c = rw (c.write_bytes.ensures, c.from_parts.ensures) (c.in_ok-code.ensures.leaves _ refl)
+returns g c = rw (c.write_bytes.ensures (c.in_ok-code.ensures.long _ refl), c.from_parts.ensures) (c.in_ok-code.ensures.leaves _ refl)

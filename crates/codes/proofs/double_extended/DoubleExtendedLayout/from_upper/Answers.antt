@@ -5,12 +5,8 @@ use Prim.Native.Nat.{◌^◌, ◌<◌}
 use Rattle.codes.specs.Codes.{double_extended, exponent_bits}
 use Rattle.codes.proofs.double_extended.DoubleExtendedLayout.from_upper.Goals as goal
 
-pub overflow_cast-upper : goal.overflow_cast-upper
-unfolding double_extended exponent_bits
-overflow_cast-upper c = record { fits = omega (arith, c.requires) }
-
 pub returns : goal.returns
-unfolding double_extended
-returns c =
+unfolding double_extended exponent_bits
+returns c room =
     let word : c.args.significand < 2 ^ 64 = omega arith in
-    rw (c.from_bits.ensures.0, c.from_bits.ensures.1, mod-eq_of_lt word)
+    rw (c.from_bits.ensures.0, c.from_bits.ensures.1, c.from.ensures, mod-eq_of_lt room, mod-eq_of_lt word)

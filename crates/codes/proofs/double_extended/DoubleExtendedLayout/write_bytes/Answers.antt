@@ -1,5 +1,5 @@
 -- `codes::double_extended::DoubleExtended::write_bytes` meets its contract. The significand fills the first eight bytes, and `upper` the two that follow.
-use mathlib.Core.Path.{refl}
+use mathlib.Core.Path.{◌≡◌, refl}
 use native.Mathlib.Omega.{arith}
 use lib.Dec.{lit≤}
 use Rattle.little_endian.proofs.Laws.Bytes.{write_parts}
@@ -8,6 +8,7 @@ use Rattle.codes.proofs.double_extended.DoubleExtendedLayout.write_bytes.Goals a
 
 pub returns : goal.returns
 unfolding double_extended
-returns c =
-    rw (← c.from.ensures)
-    (write_parts 8 10 (lit≤ tt) c.args.bytes.now c.requires _ _ _ _ _ (omega arith) refl c.write.ensures c.write-2.ensures)
+returns c long =
+    let eight : c.min-middle.result ≡ 8 = omega (arith, c.min-middle.ensures, long) in
+    rw (← c.from.ensures, eight)
+    (write_parts 8 10 (lit≤ tt) c.args.bytes.now long _ _ _ _ _ (omega arith) refl (rw eight at c.write.ensures) (rw eight at c.write-2.ensures))

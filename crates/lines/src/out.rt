@@ -1,6 +1,6 @@
 // Writes to standard output, a line by one call. A write that fails is left alone, and what follows is
 // written: the output is then short, and the comparison with what is expected tells.
-// Kept: the writer of its own. `print!` leaves out the rest of a text behind a write that fails.
+// Kept: the writer of its own. `println!` takes the runtime, which only `main` is handed.
 use arrayvec::ArrayString;
 use std::fmt;
 use std::fmt::{Display, Write};
@@ -9,7 +9,7 @@ use std::fmt::{Display, Write};
 const STDOUT_FILENO: i32 = 1;
 
 // The bytes that one call writes at most: more than the lines of the programs have.
-const MOST: usize = 128;
+const MOST: usize = 256;
 
 // What is not yet written of a line.
 #[derive(Drop)]

@@ -37,5 +37,5 @@ divided-requires c =
 
 pub returns : goal.returns
 returns c =
-    let told = answer_is (is_taken c.before.before) c.task_of.ensures c.divided.ensures in
+    let told = answer_is (is_taken (goal.at-returns c).In_ok-judged) c.task_of.ensures c.divided.ensures in
     record { told = told; rows = answer_rows _ _ _ _ _ _ told }

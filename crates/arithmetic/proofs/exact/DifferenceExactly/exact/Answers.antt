@@ -16,7 +16,7 @@ less : (r : Exact) (a b c : Number) → c ≡ negated b → IsExact r (sum (valu
 less r a b c e h = rw (← difference_is (value a) b, ← e) h
 
 pub of-requires-2 : goal.of-requires-2
-of-requires-2 c = still_working _ _ c.negated.ensures c.requires.1
+of-requires-2 c = still_working _ _ c.negated.ensures (search (c.requires.0, c.requires.1))
 
 pub returns : goal.returns
 returns c =

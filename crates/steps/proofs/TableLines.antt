@@ -2,11 +2,11 @@
 use mathlib.Core.Path.{◌≡◌, refl}
 use mathlib.Core.List.{[], ◌∷◌, ◌++◌, map}
 use Prim.Native.Nat.{ℕ}
-use Rattle.numbers.specs.Fraction.{value, sum, difference, product}
+use Rattle.numbers.specs.Fraction.{value, difference, product}
 use Rattle.numbers.specs.Answer.{Outcome, given, rounded}
 use Rattle.numbers.specs.Rounding.{by_mode, claim}
 use Rattle.numbers.specs.declared.number.Number.{Number}
-use Rattle.numbers.specs.declared.task.Mode.TheVariants.{Trunc, Away, Sticky}
+use Rattle.numbers.specs.declared.task.Mode.TheVariants.{Trunc, Away}
 use Rattle.numbers.specs.declared.task.Task.{Task}
 use Rattle.steps.specs.Run.{digit_of, less_of, steps_of, digit_steps, sum_steps}
 use Rattle.steps.specs.Steps.{seed, refined, Line, lines, line_of, line_of_both, result_at, term_of, result_of, worked_out, after_step}
@@ -50,95 +50,6 @@ module _ (p d : Number) (task : Task) where
   pub line_9 : at 9 ≡ line_of (claim 64) value (given p)
   unfolding after_step worked_out lines result_at term_of result_of
   line_9 = refl
-
-  -- the digits and their sum, line by line
-  pub line_10 : at 10 ≡ line_of (by_mode Trunc 32) value (at 9)
-  unfolding after_step worked_out lines result_at term_of result_of
-  line_10 = refl
-
-  pub line_11 : at 11 ≡ line_of_both (by_mode Away 24) product (at 10) (at 6)
-  unfolding after_step worked_out lines result_at term_of result_of
-  line_11 = refl
-
-  pub line_12 : at 12 ≡ line_of_both (claim 64) product (at 11) (at 7)
-  unfolding after_step worked_out lines result_at term_of result_of
-  line_12 = refl
-
-  pub line_13 : at 13 ≡ line_of_both (claim 64) product (at 11) (at 8)
-  unfolding after_step worked_out lines result_at term_of result_of
-  line_13 = refl
-
-  pub line_14 : at 14 ≡ line_of_both (claim 64) difference (at 9) (at 12)
-  unfolding after_step worked_out lines result_at term_of result_of
-  line_14 = refl
-
-  pub line_15 : at 15 ≡ line_of_both (claim 64) difference (at 14) (at 13)
-  unfolding after_step worked_out lines result_at term_of result_of
-  line_15 = refl
-
-  pub line_16 : at 16 ≡ line_of (by_mode Trunc 32) value (at 15)
-  unfolding after_step worked_out lines result_at term_of result_of
-  line_16 = refl
-
-  pub line_17 : at 17 ≡ line_of_both (by_mode Away 24) product (at 16) (at 6)
-  unfolding after_step worked_out lines result_at term_of result_of
-  line_17 = refl
-
-  pub line_18 : at 18 ≡ line_of_both (claim 64) product (at 17) (at 7)
-  unfolding after_step worked_out lines result_at term_of result_of
-  line_18 = refl
-
-  pub line_19 : at 19 ≡ line_of_both (claim 64) product (at 17) (at 8)
-  unfolding after_step worked_out lines result_at term_of result_of
-  line_19 = refl
-
-  pub line_20 : at 20 ≡ line_of_both (claim 64) difference (at 15) (at 18)
-  unfolding after_step worked_out lines result_at term_of result_of
-  line_20 = refl
-
-  pub line_21 : at 21 ≡ line_of_both (claim 64) difference (at 20) (at 19)
-  unfolding after_step worked_out lines result_at term_of result_of
-  line_21 = refl
-
-  pub line_22 : at 22 ≡ line_of (by_mode Trunc 32) value (at 21)
-  unfolding after_step worked_out lines result_at term_of result_of
-  line_22 = refl
-
-  pub line_23 : at 23 ≡ line_of_both (by_mode Away 24) product (at 22) (at 6)
-  unfolding after_step worked_out lines result_at term_of result_of
-  line_23 = refl
-
-  pub line_24 : at 24 ≡ line_of_both (claim 64) product (at 23) (at 7)
-  unfolding after_step worked_out lines result_at term_of result_of
-  line_24 = refl
-
-  pub line_25 : at 25 ≡ line_of_both (claim 64) product (at 23) (at 8)
-  unfolding after_step worked_out lines result_at term_of result_of
-  line_25 = refl
-
-  pub line_26 : at 26 ≡ line_of_both (claim 64) difference (at 21) (at 24)
-  unfolding after_step worked_out lines result_at term_of result_of
-  line_26 = refl
-
-  pub line_27 : at 27 ≡ line_of_both (claim 64) difference (at 26) (at 25)
-  unfolding after_step worked_out lines result_at term_of result_of
-  line_27 = refl
-
-  pub fourth_digit : at 29 ≡ line_of_both (by_mode Trunc 24) product (at 28) (at 6)
-  unfolding after_step worked_out lines result_at term_of result_of
-  fourth_digit = refl
-
-  pub line_30 : at 30 ≡ line_of_both (by_mode Sticky 64) sum (at 23) (at 29)
-  unfolding after_step worked_out lines result_at term_of result_of
-  line_30 = refl
-
-  pub line_31 : at 31 ≡ line_of_both (by_mode Sticky 64) sum (at 30) (at 17)
-  unfolding after_step worked_out lines result_at term_of result_of
-  line_31 = refl
-
-  pub line_32 : at 32 ≡ line_of_both task sum (at 31) (at 11)
-  unfolding after_step worked_out lines result_at term_of result_of
-  line_32 = refl
 
   -- steps 10 to 15, 16 to 21 and 22 to 27: a digit and the remainder after it
   pub first_digit_lines : digit_steps (at 9) (at 6) (at 7) (at 8) ≡ at 10 ∷ at 11 ∷ at 12 ∷ at 13 ∷ at 14 ∷ at 15 ∷ []
